@@ -1,0 +1,137 @@
+//! A host in memory.
+
+ghost use Rattle.std.specs.Prelude.{◌≡◌, ◌==◌, ℕ, List, Some, IfOk, IfSome};
+ghost use Rattle.std.specs.Cmp.Lexicographic.{pointwise};
+ghost use Rattle.device_mem.specs.Scripts.{bytes_of};
+
+use crate::failing::Failing;
+use crate::source::MemSource;
+use device::{Failed, Host};
+use std::alloc::{AllocError, Global};
+
+/// A script that was put, and which reads of it are to fail.
+#[derive(Debug, Drop)]
+pub struct Script {
+    name: Vec<u8>,
+    bytes: Vec<u8>,
+    failing_reads: Vec<u64>,
+}
+
+/// No database: the disk in memory comes with the page store.
+#[derive(Debug, Drop)]
+pub struct NoDisk;
+
+/// A host that gives the scripts that were put. Others it can't open.
+#[derive(Debug, Drop)]
+pub struct MemHost {
+    alloc: Global,
+    scripts: Vec<Script>,
+    faults: u64,
+    failing: Failing,
+}
+
+impl Host for MemHost {
+    ghost use Rattle.std.specs.Prelude.{ℕ, List};
+    ghost use Rattle.device.specs.Streams.{HostSeen};
+    ghost use Rattle.device_mem.specs.Scripts.{bytes_of};
+
+    type Disk = NoDisk;
+
+    type Script = MemSource;
+
+    ghost seen = { λ h. record { scripts = bytes_of h.scripts.items; faults = h.faults } };
+
+    fn open(&mut self, _name: &str) -> Result<NoDisk, Failed> {
+        if self.failing.is_next() {
+            self.faults = self.faults.saturating_add(1);
+            return Err(Failed);
+        }
+        Ok(NoDisk)
+    }
+
+    fn script(&mut self, name: &str) -> Result<MemSource, Failed> {
+        if self.failing.is_next() {
+            self.faults = self.faults.saturating_add(1);
+            return Err(Failed);
+        }
+        match opened(self.alloc, self.scripts.as_slice(), name.as_bytes()) {
+            Some(source) => Ok(source),
+            None => {
+                self.faults = self.faults.saturating_add(1);
+                Err(Failed)
+            }
+        }
+    }
+
+    fn faults(&self) -> u64 {
+        self.faults
+    }
+}
+
+fn is_same(a: &[u8], b: &[u8]) -> bool
+    ensures { result ≡ pointwise (λ x y. x == y) a.now b.now }
+{
+    a == b
+}
+
+/// A source of the script of this name, if it was put and there is memory for it.
+fn opened(alloc: Global, scripts: &[Script], name: &[u8]) -> Option<MemSource>
+    ensures unread { IfSome result (λ s. (s.read ≡ 0) × (Some s.bytes.items ≡ bytes_of scripts.now name.now)) }
+    ensures well { IfSome result (λ s. s.faults ≡ 0) }
+{
+    for script in scripts {
+        if is_same(script.name.as_slice(), name) {
+            return source_of(alloc, script).ok();
+        }
+    }
+    None
+}
+
+/// A source of the script's bytes, none of them read.
+fn source_of(alloc: Global, script: &Script) -> Result<MemSource, AllocError>
+    ensures unread { IfOk result (λ s. (s.read ≡ 0) × (s.bytes.items ≡ script.now.bytes.items)) }
+    ensures well { IfOk result (λ s. s.faults ≡ 0) }
+{
+    let mut failing = Failing::new(alloc);
+    failing.list(script.failing_reads.as_slice())?;
+    let bytes = Vec::from_slice(alloc, script.bytes.as_slice())?;
+    Ok(MemSource::new(bytes, failing))
+}
+
+impl MemHost {
+    /// A host without scripts that fails at no call.
+    pub fn new(alloc: Global) -> MemHost {
+        MemHost {
+            alloc,
+            scripts: Vec::new(alloc),
+            faults: 0,
+            failing: Failing::new(alloc),
+        }
+    }
+
+    /// Puts the script of a name, in place of one that stood under it.
+    pub fn put_script(&mut self, name: &str, text: &[u8]) -> Result<(), AllocError> {
+        let script = Script {
+            name: Vec::from_slice(self.alloc, name.as_bytes())?,
+            bytes: Vec::from_slice(self.alloc, text)?,
+            failing_reads: Vec::new(self.alloc),
+        };
+        self.scripts.insert(0, script)?;
+        Ok(())
+    }
+
+    /// The calls of `open` and `script` with these numbers, counted from 0, fail.
+    pub fn fail_at(&mut self, calls: &[u64]) -> Result<(), AllocError> {
+        self.failing.list(calls)
+    }
+
+    /// The reads with these numbers, counted from 0, of the script of this name fail. It was put before.
+    pub fn fail_reads(&mut self, name: &str, calls: &[u64]) -> Result<(), AllocError> {
+        for script in self.scripts.iter_mut() {
+            if is_same(script.name.as_slice(), name.as_bytes()) {
+                script.failing_reads.extend_from_slice(calls)?;
+            }
+        }
+        Ok(())
+    }
+}
