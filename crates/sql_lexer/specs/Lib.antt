@@ -1,0 +1,6 @@
+pub mod Bytes
+pub mod Reading
+pub mod Kinds
+pub mod Tokens
+pub mod Splitting
+pub mod Reserved
