@@ -129,7 +129,7 @@ pub enum BoundStatement {
         table: u32,
         conjuncts: Exprs,
     },
-    Select(BoundSelect),
+    Select(Box<BoundSelect>),
     LockTable {
         table: u32,
         mode: TableMode,

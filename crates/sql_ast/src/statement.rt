@@ -153,13 +153,13 @@ pub enum Statement {
     Update {
         table: Name,
         sets: Seq<SetText>,
-        condition: Option<Expression>,
+        condition: Option<Box<Expression>>,
     },
     Delete {
         table: Name,
-        condition: Option<Expression>,
+        condition: Option<Box<Expression>>,
     },
-    Select(SelectText),
+    Select(Box<SelectText>),
     LockTable {
         table: Name,
         mode: TableMode,

@@ -1,0 +1,8 @@
+pub mod Tables
+pub mod World
+pub mod Catalog
+pub mod Meaning
+pub mod Levels
+pub mod Legal
+pub mod Text
+pub mod Writing
