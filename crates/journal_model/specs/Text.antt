@@ -113,20 +113,38 @@ abbrev pub is_asked : ℕ → Waiting → Bool
 is_asked t (asked u) = u == t
 is_asked t _ = false
 
+-- behind the acknowledgement of transaction t an answer is told
+abbrev pub when_acknowledged : ℕ → Waiting → Waiting
+when_acknowledged t (answered u a) = if u == t then idle else answered u a
+when_acknowledged t w = w
+
+-- behind the rollback of transaction t a refusal is told
+abbrev pub when_rolled_back : ℕ → Waiting → Waiting
+when_rolled_back t (refused u why) = if u == t then idle else refused u why
+when_rolled_back t w = w
+
 -- what the connection waits for behind an entry
 abbrev pub waiting_after : ℕ → Waiting → Entry → Waiting
 waiting_after c w (Started t d level statement) = if d.0 == c then asked t.0 else w
 waiting_after c w (Answered t a joined from to) = if is_asked t.0 w then answered t.0 a else w
 waiting_after c w (Refused t why) = if is_asked t.0 w then refused t.0 why else w
-waiting_after c (answered u a) (Acknowledged t) = if u == t.0 then idle else answered u a
-waiting_after c (refused u why) (RolledBack t) = if u == t.0 then idle else refused u why
+waiting_after c w (Acknowledged t) = when_acknowledged t.0 w
+waiting_after c w (RolledBack t) = when_rolled_back t.0 w
 waiting_after c w _ = w
+
+abbrev pub acknowledged_text : ℕ → Waiting → List ℕ
+acknowledged_text t (answered u a) = if u == t then answer_text a else []
+acknowledged_text t w = []
+
+abbrev pub rolled_back_text : ℕ → Waiting → List ℕ
+rolled_back_text t (refused u why) = if u == t then refusal_text why else []
+rolled_back_text t w = []
 
 -- what is printed at an entry
 abbrev pub printed_at : ℕ → Waiting → Entry → List ℕ
 printed_at c w (Started t d level statement) = if d.0 == c then left_text w else []
-printed_at c (answered u a) (Acknowledged t) = if u == t.0 then answer_text a else []
-printed_at c (refused u why) (RolledBack t) = if u == t.0 then refusal_text why else []
+printed_at c w (Acknowledged t) = acknowledged_text t.0 w
+printed_at c w (RolledBack t) = rolled_back_text t.0 w
 printed_at c w _ = []
 
 -- what is printed of a connection's statements
