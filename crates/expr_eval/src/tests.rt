@@ -158,28 +158,29 @@ fn adds_up_values(rt: HostRuntime) -> Result<(), Fail> {
     let alloc = rt.alloc();
     let most = i64::MAX;
     let whole = [Value::Num(most), Value::Num(1), Value::Null, Value::Num(-1)];
-    let sum = aggregate(alloc, Aggregate::Sum, Ty::Big, &whole)?;
+    let all = whole.as_slice();
+    let sum = aggregate(alloc, Aggregate::Sum, Ty::Big, all)?;
     assert_eq!(rt; sum, Evaluated::Value(Value::Num(most)));
-    let part = aggregate(alloc, Aggregate::Sum, Ty::Big, &whole[..2])?;
+    let part = aggregate(alloc, Aggregate::Sum, Ty::Big, &all[..2])?;
     assert_eq!(rt; part, Evaluated::Sql(SqlState::OutOfRange));
-    let none = aggregate(alloc, Aggregate::Sum, Ty::Big, &whole[2..3])?;
+    let none = aggregate(alloc, Aggregate::Sum, Ty::Big, &all[2..3])?;
     assert_eq!(rt; none, Evaluated::Value(Value::Null));
-    let count = aggregate(alloc, Aggregate::Count, Ty::Big, &whole)?;
+    let count = aggregate(alloc, Aggregate::Count, Ty::Big, all)?;
     assert_eq!(rt; count, Evaluated::Value(Value::Num(3)));
     let texts = [
-        Value::Text(copy_text(alloc, b"b ")?),
+        Value::Text(copy_text(alloc, "b ".as_bytes())?),
         Value::Null,
-        Value::Text(copy_text(alloc, b"a  ")?),
+        Value::Text(copy_text(alloc, "a  ".as_bytes())?),
     ];
     let least = aggregate(alloc, Aggregate::Min, Ty::Text(9), &texts)?;
     assert_eq!(rt;
         least,
-        Evaluated::Value(Value::Text(copy_text(alloc, b"a")?))
+        Evaluated::Value(Value::Text(copy_text(alloc, "a".as_bytes())?))
     );
     let greatest = aggregate(alloc, Aggregate::Max, Ty::Text(9), &texts)?;
     assert_eq!(rt;
         greatest,
-        Evaluated::Value(Value::Text(copy_text(alloc, b"b")?))
+        Evaluated::Value(Value::Text(copy_text(alloc, "b".as_bytes())?))
     );
     Ok(())
 }
