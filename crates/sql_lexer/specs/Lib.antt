@@ -4,3 +4,4 @@ pub mod Kinds
 pub mod Tokens
 pub mod Splitting
 pub mod Reserved
+pub mod Order

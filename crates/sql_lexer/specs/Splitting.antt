@@ -1,5 +1,5 @@
 -- The statements of a script.
-use Rattle.std.specs.Prelude.{◌+◌, ℕ, List, [], ◌∷◌, ◌++◌, Option, Some, None, map, Bool, false, ◌==◌, if◌then◌else◌, slice_range}
+use Rattle.std.specs.Prelude.{◌≡◌, ◌+◌, ℕ, List, [], ◌∷◌, ◌++◌, Option, Some, None, length, map, Bool, false, ◌==◌, if◌then◌else◌, slice_range}
 use Rattle.sql_lexer.specs.Reading.{reading_after, is_in_token}
 use Rattle.sql_lexer.specs.Tokens.{span_of}
 use Rattle.sql_lexer.specs.declared.reading.Reading.{Reading}
@@ -39,3 +39,7 @@ bytes_of text span = slice_range text span.from span.to
 -- the texts of a script's statements
 abbrev pub statements_of : List ℕ → List (List ℕ)
 statements_of script = map (bytes_of script) (spans_of script)
+
+-- a text that is one statement from its first byte to its last
+abbrev pub IsOneStatement : List ℕ → Type 0
+IsOneStatement text = spans_of text ≡ span_of 0 (length text) ∷ []

@@ -5,8 +5,11 @@
 
 pub mod byte;
 pub mod kind;
+pub mod laws;
 pub mod reading;
 pub mod reserved;
 pub mod splitting;
+#[cfg(test)]
+mod tests;
 pub mod token;
 pub mod tokens;

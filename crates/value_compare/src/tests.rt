@@ -1,0 +1,104 @@
+//! Values against each other, worked by hand.
+
+use crate::logic::{and, not, or};
+use crate::order::{compare, copy_trimmed, is_same};
+use crate::storing::store;
+use dby_types::copies::copy_text;
+use dby_types::state::SqlState;
+use dby_types::value::{Ty, Value};
+use std::alloc::{AllocError, Global};
+use std::test::Fail;
+
+fn text(alloc: Global, spelled: &str) -> Result<Value, AllocError> {
+    Ok(Value::Text(copy_text(alloc, spelled.as_bytes())?))
+}
+
+#[test]
+fn orders_values(rt: HostRuntime) -> Result<(), Fail> {
+    let alloc = rt.alloc();
+    let mut rising = Vec::new(alloc);
+    for n in [i64::MIN, -1, 0, i64::MAX] {
+        rising.push(Value::Num(n))?;
+    }
+    rising.push(Value::Bool(false))?;
+    rising.push(Value::Bool(true))?;
+    for spelled in [
+        "", "a\u{0}b", "a\n", "a", "a b", "a!", "b", "z", "é", "€", "😀",
+    ] {
+        rising.push(text(alloc, spelled)?)?;
+    }
+    rising.push(Value::Null)?;
+    for (i, a) in rising.iter().enumerate() {
+        for (j, b) in rising.iter().enumerate() {
+            assert_eq!(rt; compare(a, b), i.cmp(&j), "{i} {j}");
+        }
+    }
+    assert!(rt; is_same(&text(alloc, "a")?, &text(alloc, "a  ")?));
+    assert_eq!(rt;
+        copy_trimmed(alloc, &text(alloc, " a  ")?)?,
+        text(alloc, " a")?
+    );
+    Ok(())
+}
+
+#[test]
+fn knows_what_is_unknown(rt: HostRuntime) {
+    let cases = [
+        (Some(true), Some(true), Some(true), Some(true)),
+        (Some(true), Some(false), Some(false), Some(true)),
+        (Some(true), None, None, Some(true)),
+        (Some(false), Some(false), Some(false), Some(false)),
+        (Some(false), None, Some(false), None),
+        (None, None, None, None),
+    ];
+    for (a, b, both, one) in cases {
+        let (a, b) = (truth(a), truth(b));
+        assert_eq!(rt; and(&a, &b), truth(both));
+        assert_eq!(rt; and(&b, &a), truth(both));
+        assert_eq!(rt; or(&a, &b), truth(one));
+        assert_eq!(rt; or(&b, &a), truth(one));
+    }
+    assert_eq!(rt; not(&Value::Null), Value::Null);
+    assert_eq!(rt; not(&Value::Bool(true)), Value::Bool(false));
+}
+
+fn truth(value: Option<bool>) -> Value {
+    match value {
+        Some(b) => Value::Bool(b),
+        None => Value::Null,
+    }
+}
+
+#[test]
+fn stores_values(rt: HostRuntime) -> Result<(), Fail> {
+    let alloc = rt.alloc();
+    assert_eq!(rt;
+        store(Ty::Text(2), text(alloc, "a   ")?),
+        Ok(text(alloc, "a ")?)
+    );
+    assert_eq!(rt;
+        store(Ty::Text(3), text(alloc, "aé")?),
+        Ok(text(alloc, "aé")?)
+    );
+    assert_eq!(rt;
+        store(Ty::Text(2), text(alloc, "aé")?),
+        Err(SqlState::TextTooLong)
+    );
+    assert_eq!(rt;
+        store(Ty::Small, Value::Num(-32768)),
+        Ok(Value::Num(-32768))
+    );
+    assert_eq!(rt;
+        store(Ty::Small, Value::Num(32768)),
+        Err(SqlState::OutOfRange)
+    );
+    assert_eq!(rt;
+        store(Ty::Int, Value::Num(2147483648)),
+        Err(SqlState::OutOfRange)
+    );
+    assert_eq!(rt;
+        store(Ty::Big, Value::Bool(true)),
+        Err(SqlState::NotStorable)
+    );
+    Ok(())
+}
