@@ -2,6 +2,7 @@ pub mod CarryingLemmas
 pub mod CreateLemmas
 pub mod CatalogLemmas
 pub mod DictionaryLemmas
+pub mod EngineLemmas
 pub mod FitLemmas
 pub mod HeapLemmas
 pub mod HoldingLemmas

@@ -5,6 +5,7 @@
 
 mod carry;
 pub mod dictionary;
+pub mod engine;
 pub mod fit;
 pub mod heap;
 mod new_row;
