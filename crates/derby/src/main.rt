@@ -6,6 +6,8 @@ mod printing;
 mod reading;
 mod real;
 mod step;
+#[cfg(test)]
+mod tests;
 mod words;
 
 use real::{FileHost, StreamSink};
