@@ -1,0 +1,4 @@
+pub mod StoredRowLemmas
+pub mod WriteLemmas
+pub mod ReadLemmas
+pub mod RowLoops

@@ -1,0 +1,6 @@
+//! Rows as bytes: the stored form of a row over its columns.
+#![tactic(auto)]
+
+pub mod read;
+pub mod width;
+pub mod write;
