@@ -1,0 +1,4 @@
+//! Containers: their allocation pages, which give fresh page numbers.
+#![tactic(auto)]
+
+pub mod allocation;
