@@ -5,3 +5,6 @@ pub mod EditLemmas
 pub mod MoveLemmas
 pub mod ChangeLemmas
 pub mod FieldLemmas
+pub mod FormatLemmas
+pub mod SoundLemmas
+pub mod SoundPage
