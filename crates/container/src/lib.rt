@@ -2,3 +2,5 @@
 #![tactic(auto)]
 
 pub mod allocation;
+#[cfg(test)]
+mod tests;

@@ -4,3 +4,5 @@
 #![tactic(auto)]
 
 pub mod pool;
+#[cfg(test)]
+mod tests;

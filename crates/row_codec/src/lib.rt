@@ -2,5 +2,7 @@
 #![tactic(auto)]
 
 pub mod read;
+#[cfg(test)]
+mod tests;
 pub mod width;
 pub mod write;
