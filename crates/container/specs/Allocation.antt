@@ -18,4 +18,5 @@ count_of c = number_at 4 (record_at c 0).bytes 0
 pub record HasGrown (old new : Content) (fresh : ℕ) : Type 0 where
   pub next : fresh ≡ count_of old
   pub count : count_of new ≡ fresh + 1
+  pub allocation : IsAllocation new
   pub same : new ≡ with_changed old 0 (record (record_at old 0) { bytes = (record_at new 0).bytes })

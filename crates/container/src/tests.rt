@@ -17,12 +17,5 @@ fn last_page(rt: HostRuntime) {
     let mut page = PageMut::make(&mut frame, ID, Kind::Allocation);
     page.insert(0, Flags(0), &[0, 0xff, 0xff, 0xff]);
     assert!(rt; Allocation::grow(&mut page) == Some(16_777_215));
-}
-
-#[test]
-fn full_container(rt: HostRuntime) {
-    let mut frame = [0; 4096];
-    let mut page = PageMut::make(&mut frame, ID, Kind::Allocation);
-    page.insert(0, Flags(0), &[1, 0, 0, 0]);
     assert!(rt; Allocation::grow(&mut page).is_none());
 }
