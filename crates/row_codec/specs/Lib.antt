@@ -1,1 +1,2 @@
 pub mod StoredRow
+pub mod Worked
