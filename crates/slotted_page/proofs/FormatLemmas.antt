@@ -3,7 +3,7 @@ use Rattle.std.proofs.Common.{◌≡◌, ◌≢◌, ◌+◌, ◌-◌, ◌*◌, �
 use Rattle.std.proofs.lemmas.Bool.{cases_lt, cases_eq}
 use Rattle.dby_types.specs.declared.number.PageId.{PageId}
 use Rattle.dby_bytes.specs.Numbers.{number_at}
-use Rattle.slotted_page.specs.Format.{kind_at, count_at, start_at, length_at, end_at, directory_at, directory_end, IsCountFor, IsStartAt, IsRightAt, AreRightBelow, IsFirstWrong}
+use Rattle.slotted_page.specs.Format.{kind_at, count_at, start_at, length_at, end_at, directory_at, directory_end, own_id, IsCountFor, IsStartAt, IsRightAt, AreRightBelow, IsFirstWrong}
 
 pub directory_from : (k : ℕ) → 32 ≤ directory_at k
 directory_from zero = omega arith
@@ -218,3 +218,11 @@ start_from b i dir count start end hc hd hs he h =
 
 pub below_at : (id : PageId) (b : List ℕ) (m n : ℕ) → m ≡ n → AreRightBelow id b (end_at b m) → AreRightBelow id b (end_at b n)
 below_at id b m n e h = subst (λ (k : ℕ). AreRightBelow id b (end_at b k)) e h
+
+-- where the first 32 bytes keep the format, the bytes say that they are the page that was asked for
+pub own_id_right : (id : PageId) (b : List ℕ) → AreRightBelow id b 32 → own_id b ≡ id
+own_id_right id b h =
+    let same : number_at 4 b 8 ≡ id.container = (h 8 (omega arith)).container refl in
+    let page : number_at 4 b 12 ≡ id.page = (h 12 (omega arith)).page refl in
+    let left : own_id b ≡ record { container = id.container; page = number_at 4 b 12 } = ap (λ (n : ℕ). record { container = n; page = number_at 4 b 12 }) same in
+    left ∙ ap (λ (n : ℕ). record { container = id.container; page = n }) page

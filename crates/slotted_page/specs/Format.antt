@@ -17,6 +17,10 @@ start_at b i = number_at 2 b (32 + 4 * i)
 abbrev pub length_at : List ℕ → ℕ → ℕ
 length_at b i = number_at 2 b (32 + 4 * i + 2)
 
+-- the page that the bytes say they are
+abbrev pub own_id : List ℕ → PageId
+own_id b = record { container = number_at 4 b 8; page = number_at 4 b 12 }
+
 -- where the record at a place must end: at the page's end, or where the one before starts
 abbrev pub end_at : List ℕ → ℕ → ℕ
 end_at b zero = 4096

@@ -1,7 +1,7 @@
 //! The fields of a page, judged in the order of their places.
 
 ghost use Rattle.std.specs.Prelude.{◌≡◌, ◌↔◌, ◌≤◌, ◌<◌, ◌+◌, ◌*◌, ℕ, IsTrue, MatchOption};
-ghost use Rattle.slotted_page.specs.Format.{AreRightBelow, IsCountFor, IsFirstWrong, IsKindFor, IsRightAt, count_at, directory_at, directory_end, end_at};
+ghost use Rattle.slotted_page.specs.Format.{AreRightBelow, IsCountFor, IsFirstWrong, IsKindFor, IsRightAt, count_at, directory_at, directory_end, end_at, own_id};
 
 use dby_bytes::{get_u16, get_u32};
 use dby_types::number::PageId;
@@ -72,9 +72,9 @@ fn is_start(kind: u8, start: usize, low: usize, end: usize) -> bool
 }
 
 /// The first field of the directory that breaks the format.
-fn wrong_entry(b: &[u8; 4096], id: PageId) -> Option<u32>
-    requires { AreRightBelow id b.now 32 }
-    ensures exact { MatchOption result (AreRightBelow id b.now (32 + 4 * count_at b.now)) (IsFirstWrong id b.now) }
+fn wrong_entry(b: &[u8; 4096]) -> Option<u32>
+    requires { AreRightBelow (own_id b.now) b.now 32 }
+    ensures exact { MatchOption result (AreRightBelow (own_id b.now) b.now (32 + 4 * count_at b.now)) (IsFirstWrong (own_id b.now) b.now) }
 {
     let count = get_u16(b, 18) as usize;
     let low = directory_start(b[16]) + 4 * count;
@@ -94,9 +94,9 @@ fn wrong_entry(b: &[u8; 4096], id: PageId) -> Option<u32>
 }
 
 /// The field of a control page's own bytes that breaks the format.
-fn wrong_own(b: &[u8; 4096], id: PageId) -> Option<u32>
-    requires { AreRightBelow id b.now (32 + 4 * count_at b.now) }
-    ensures exact { MatchOption result (AreRightBelow id b.now (directory_end b.now)) (IsFirstWrong id b.now) }
+fn wrong_own(b: &[u8; 4096]) -> Option<u32>
+    requires { AreRightBelow (own_id b.now) b.now (32 + 4 * count_at b.now) }
+    ensures exact { MatchOption result (AreRightBelow (own_id b.now) b.now (directory_end b.now)) (IsFirstWrong (own_id b.now) b.now) }
 {
     if b[16] == 0 && get_u32(b, 36) == 0 {
         return Some(36);
@@ -117,9 +117,9 @@ fn lowest(b: &[u8; 4096]) -> usize
 }
 
 /// The first byte between the directory and the records that isn't 0.
-fn wrong_gap(b: &[u8; 4096], id: PageId) -> Option<u32>
-    requires { AreRightBelow id b.now (directory_end b.now) }
-    ensures exact { MatchOption result (AreRightBelow id b.now (end_at b.now (count_at b.now))) (IsFirstWrong id b.now) }
+fn wrong_gap(b: &[u8; 4096]) -> Option<u32>
+    requires { AreRightBelow (own_id b.now) b.now (directory_end b.now) }
+    ensures exact { MatchOption result (AreRightBelow (own_id b.now) b.now (end_at b.now (count_at b.now))) (IsFirstWrong (own_id b.now) b.now) }
 {
     let count = get_u16(b, 18) as usize;
     let from = directory_start(b[16]) + 4 * count;
@@ -133,10 +133,10 @@ fn wrong_gap(b: &[u8; 4096], id: PageId) -> Option<u32>
 }
 
 /// The first record whose flags break the format.
-fn wrong_flags(b: &[u8; 4096], id: PageId) -> Option<u32>
-    requires directory { AreRightBelow id b.now (directory_end b.now) }
-    requires gap { AreRightBelow id b.now (end_at b.now (count_at b.now)) }
-    ensures exact { MatchOption result ((p : ℕ) → IsRightAt id b.now p) (IsFirstWrong id b.now) }
+fn wrong_flags(b: &[u8; 4096]) -> Option<u32>
+    requires directory { AreRightBelow (own_id b.now) b.now (directory_end b.now) }
+    requires gap { AreRightBelow (own_id b.now) b.now (end_at b.now (count_at b.now)) }
+    ensures exact { MatchOption result ((p : ℕ) → IsRightAt (own_id b.now) b.now p) (IsFirstWrong (own_id b.now) b.now) }
 {
     let count = get_u16(b, 18) as usize;
     for k in 0..count {
@@ -148,6 +148,23 @@ fn wrong_flags(b: &[u8; 4096], id: PageId) -> Option<u32>
     None
 }
 
+/// The first field behind the first 32 bytes that breaks the format.
+fn wrong_behind(b: &[u8; 4096]) -> Option<u32>
+    requires { AreRightBelow (own_id b.now) b.now 32 }
+    ensures exact { MatchOption result ((p : ℕ) → IsRightAt (own_id b.now) b.now p) (IsFirstWrong (own_id b.now) b.now) }
+{
+    if let Some(p) = wrong_entry(b) {
+        return Some(p);
+    }
+    if let Some(p) = wrong_own(b) {
+        return Some(p);
+    }
+    if let Some(p) = wrong_gap(b) {
+        return Some(p);
+    }
+    wrong_flags(b)
+}
+
 /// The first field that breaks the format; none exactly where every field keeps it.
 pub fn first_wrong(b: &[u8; 4096], id: PageId) -> Option<u32>
     ensures exact { MatchOption result ((p : ℕ) → IsRightAt id b.now p) (IsFirstWrong id b.now) }
@@ -155,14 +172,5 @@ pub fn first_wrong(b: &[u8; 4096], id: PageId) -> Option<u32>
     if let Some(p) = wrong_front(b, id) {
         return Some(p);
     }
-    if let Some(p) = wrong_entry(b, id) {
-        return Some(p);
-    }
-    if let Some(p) = wrong_own(b, id) {
-        return Some(p);
-    }
-    if let Some(p) = wrong_gap(b, id) {
-        return Some(p);
-    }
-    wrong_flags(b, id)
+    wrong_behind(b)
 }
