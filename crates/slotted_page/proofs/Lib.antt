@@ -1,0 +1,10 @@
+pub mod LayoutLemmas
+pub mod FrontLemmas
+pub mod PageLemmas
+pub mod EditLemmas
+pub mod MoveLemmas
+pub mod ChangeLemmas
+pub mod FieldLemmas
+pub mod FormatLemmas
+pub mod SoundLemmas
+pub mod SoundPage
