@@ -1,0 +1,5 @@
+pub mod Modes
+pub mod Names
+pub mod Lock
+pub mod Waits
+pub mod Proper
