@@ -3,3 +3,4 @@ pub mod Names
 pub mod Lock
 pub mod Waits
 pub mod Proper
+pub mod Serving

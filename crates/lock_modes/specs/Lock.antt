@@ -40,15 +40,15 @@ has_grant g t n = is_held (g t n)
 
 -- one mode more for a transaction on a name
 abbrev pub granted : Grants → Request → Grants
-granted g r = λ t n. if same_txn t r.txn && same_name n r.name then with_mode (g t n) r.mode else g t n
+granted g r = λ t n. if same_txn r.txn t && same_name r.name n then with_mode (g t n) r.mode else g t n
 
 -- nothing any more for a transaction on a name
 abbrev pub released : Grants → TxnNo → LockName → Grants
-released g u k = λ t n. if same_txn t u && same_name n k then no_modes else g t n
+released g u k = λ t n. if same_txn u t && same_name k n then no_modes else g t n
 
 -- nothing any more for a transaction
 abbrev pub released_all : Grants → TxnNo → Grants
-released_all g u = λ t n. if same_txn t u then no_modes else g t n
+released_all g u = λ t n. if same_txn u t then no_modes else g t n
 
 -- the requests without the one of a transaction for a name
 abbrev pub without_request : TxnNo → LockName → List Request → List Request
@@ -67,8 +67,8 @@ abbrev pub apply : Lock → LockEvent → Lock
 apply l (Granted t n m) = record l { grants = granted l.grants (request t n m); conversions = without_request t n l.conversions; requests = without_request t n l.requests }
 apply l (Queued t n m) = queued l (request t n m)
 apply l (Released t n) = record l { grants = released l.grants t n }
-apply l (ReleasedAll t) = record { grants = released_all l.grants t; conversions = without t l.conversions; requests = without t l.requests; victims = λ u. not (same_txn u t) && l.victims u }
-apply l (Chosen t) = record l { victims = λ u. same_txn u t || l.victims u }
+apply l (ReleasedAll t) = record { grants = released_all l.grants t; conversions = without t l.conversions; requests = without t l.requests; victims = λ u. not (same_txn t u) && l.victims u }
+apply l (Chosen t) = record l { victims = λ u. same_txn t u || l.victims u }
 
 -- the state after a list of events, the first event first
 abbrev pub apply_all : Lock → List LockEvent → Lock

@@ -86,9 +86,6 @@ with_mode ms TX = record ms { t_x = true }
 abbrev pub no_modes : Modes
 no_modes = record { s2 = false; s3 = false; u2 = false; u3 = false; ip = false; x2 = false; x3 = false; t_is = false; t_ix = false; t_s = false; t_x = false }
 
-abbrev pub only_mode : Mode → Modes
-only_mode m = with_mode no_modes m
-
 -- whether a mode of the set isn't compatible with a mode
 unfoldable pub hinders : Modes → Mode → Bool
 hinders ms m = list_any (λ a. has_mode ms a && not (compatible a m)) all_modes

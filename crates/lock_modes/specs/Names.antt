@@ -10,7 +10,7 @@ same_txn a b = a.0 == b.0
 abbrev pub same_name : LockName → LockName → Bool
 same_name Dictionary Dictionary = true
 same_name (Table a) (Table b) = a == b
-same_name (Row a r) (Row b s) = (a == b && r.page == s.page) && r.slot == s.slot
+same_name (Row a r) (Row b s) = a == b && (r.page == s.page && r.slot == s.slot)
 same_name (First a i) (First b j) = a == b && i == j
 same_name _ _ = false
 

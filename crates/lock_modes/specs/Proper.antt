@@ -38,7 +38,7 @@ IsProper l ever (Chosen t) = (c : List Edge) × IsStanding l c × NoneIs ever c 
 
 -- whether an event chose a transaction
 abbrev pub chooses : LockEvent → TxnNo → Bool
-chooses (Chosen u) t = same_txn t u
+chooses (Chosen u) t = same_txn u t
 chooses _ t = false
 
 -- whether some event of a list chose a transaction

@@ -1,6 +1,6 @@
 -- Who is in whose way, who waits for whom, and cycles of waits.
 use Rattle.std.specs.Prelude.{◌≡◌, ◌⊎◌, ℕ, ◌<◌, ◌≤◌, Bool, true, false, ◌&&◌, ◌||◌, not, if◌then◌else◌, List, [], ◌∷◌, ◌++◌, length, Option, Some, None, All}
-use Rattle.std.specs.List.{list_any, find, Any}
+use Rattle.std.specs.List.{list_any, find, Any, IsDistinct}
 use Rattle.dby_types.specs.declared.number.TxnNo.{TxnNo}
 use Rattle.lock_modes.specs.declared.cycle.Edge.{Edge}
 use Rattle.lock_modes.specs.declared.entry.Request.{Request}
@@ -13,9 +13,13 @@ use Rattle.lock_modes.specs.Lock.{Lock, Grants, queue, has_grant, request}
 abbrev pub opposes : Request → Request → Bool
 opposes q r = same_name q.name r.name && not (compatible q.mode r.mode)
 
+-- a transaction has a request among these that is in the way
+abbrev pub asks_before : List Request → Request → TxnNo → Bool
+asks_before before r h = list_any (λ q. same_txn q.txn h && opposes q r) before
+
 -- a transaction is in the way of another's request: by what it has, or by a request that stands before
 abbrev pub blocks : Grants → List Request → Request → TxnNo → Bool
-blocks g before r h = not (same_txn h r.txn) && (hinders (g h r.name) r.mode || list_any (λ q. same_txn q.txn h && opposes q r) before)
+blocks g before r h = not (same_txn h r.txn) && (hinders (g h r.name) r.mode || asks_before before r h)
 
 -- nobody is in the way
 abbrev pub IsFree : Grants → List Request → Request → Type 0
@@ -56,20 +60,11 @@ AllBlocked g before (r ∷ rs) = IsBlocked g before r × AllBlocked g (before ++
 abbrev pub IsSettled : Lock → Type 0
 IsSettled l = AllBlocked l.grants [] (queue l)
 
--- whether a name stands in a list
-abbrev pub has_name : List LockName → LockName → Bool
-has_name ns n = list_any (λ k. same_name k n) ns
-
--- no name stands twice
-abbrev pub AreApart : List LockName → Type 0
-AreApart [] = Unit {0}
-AreApart (n ∷ ns) = (has_name ns n ≡ false) × AreApart ns
-
 -- exactly so many names pass the test
 pub record IsNumber (test : LockName → Bool) (k : ℕ) : Type 0 where
   pub names : List LockName
-  pub apart : AreApart names
-  pub exact : (n : LockName) → has_name names n ≡ test n
+  pub apart : IsDistinct same_name names
+  pub exact : (n : LockName) → list_any (same_name n) names ≡ test n
   pub long : length names ≡ k
 
 -- an edge tells a wait as it is: for what, for whom, with how many names

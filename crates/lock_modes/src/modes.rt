@@ -1,7 +1,7 @@
 //! The modes that one transaction has on one name.
 
 ghost use Rattle.std.specs.Prelude.{◌≡◌};
-ghost use Rattle.lock_modes.specs.Modes.{has_mode, with_mode, only_mode, hinders, is_covered, writes, is_ranged};
+ghost use Rattle.lock_modes.specs.Modes.{has_mode, with_mode, no_modes, hinders, is_held, is_covered, writes, is_ranged};
 
 use crate::mode::{Mode, compatible, covers};
 
@@ -37,11 +37,11 @@ const ALL: [Mode; 11] = [
 ];
 
 impl Modes {
-    /// The set of this mode alone.
-    pub fn only(mode: Mode) -> Modes
-        ensures exact { result ≡ only_mode mode }
+    /// The empty set.
+    pub fn none() -> Modes
+        ensures exact { result ≡ no_modes }
     {
-        let none = Modes {
+        Modes {
             s2: false,
             s3: false,
             u2: false,
@@ -53,8 +53,7 @@ impl Modes {
             t_ix: false,
             t_s: false,
             t_x: false,
-        };
-        none.with(mode)
+        }
     }
 
     pub fn has(self, mode: Mode) -> bool
@@ -73,6 +72,14 @@ impl Modes {
             Mode::TS => self.t_s,
             Mode::TX => self.t_x,
         }
+    }
+
+    /// Whether the set has any mode.
+    #[tactic(auto, unfolding(crate::specs::Modes::is_held))]
+    pub fn is_held(self) -> bool
+        ensures exact { result ≡ is_held self }
+    {
+        ALL.iter().any(|a| self.has(*a))
     }
 
     /// This set with one mode more.

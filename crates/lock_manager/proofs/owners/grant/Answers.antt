@@ -1,0 +1,19 @@
+use Rattle.std.specs.Option.{is_some}
+use Rattle.std.proofs.Common.{sym, ap, refl, subst, ◌≡◌}
+use Rattle.std.specs.HashMap.{HashMap}
+use Rattle.lock_modes.specs.Lock.{granted, released}
+use Rattle.lock_modes.specs.Modes.{with_mode, no_modes}
+use Rattle.lock_manager.specs.Owners.{grants_in, Changes}
+use Rattle.lock_manager.proofs.OwnersLemmas.{changes, put_name, same_grants, no_owner, no_waiter, none_released, unchanged}
+use Rattle.lock_manager.proofs.owners.grant.Goals as goal
+
+pub returns-in-Some-clause-changes : goal.returns-in-Some-clause-changes
+returns-in-Some-clause-changes c =
+    let through = c.get_mut.follows.holds c.grant.new.self in
+    let put = (through.3 (ap is_some (sym c.in-Some.ensures.value))).0 in
+    changes c.args.owners.now.entries (c.get_mut.follows.lender c.grant.new.self).entries c.args.r.txn c.in-Some.owner.now c.grant.new.self
+    _ put through.0 c.in-Some.ensures.value
+    (put_name c.args.owners.now.entries (c.get_mut.follows.lender c.grant.new.self).entries c.args.r.txn c.in-Some.owner.now c.grant.new.self c.args.r.name (λ v. with_mode v c.args.r.mode) put c.in-Some.ensures.value c.grant.ensures.gains.modes)
+
+pub returns-in_default-clause-changes : goal.returns-in_default-clause-changes
+returns-in_default-clause-changes c = absurd (no_owner c.args.owners.now.entries c.args.r.txn c.args.r.name c.in_default.ensures.value c.requires)

@@ -1,0 +1,7 @@
+//! Grants and queues of locks.
+#![tactic(auto)]
+
+pub mod holdings;
+pub mod owner;
+pub mod owners;
+pub mod queue;
