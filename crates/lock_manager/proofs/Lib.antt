@@ -1,3 +1,6 @@
 pub mod NameLemmas
 pub mod HoldingsLemmas
 pub mod OwnersLemmas
+pub mod ServeLemmas
+pub mod BlockedLemmas
+pub mod TableLemmas

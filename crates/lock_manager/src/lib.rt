@@ -5,3 +5,5 @@ pub mod holdings;
 pub mod owner;
 pub mod owners;
 pub mod queue;
+pub mod table;
+pub mod tried;

@@ -27,7 +27,7 @@ IsFree g before r = (h : TxnNo) → blocks g before r h ≡ false
 
 -- somebody is in the way
 abbrev pub IsBlocked : Grants → List Request → Request → Type 0
-IsBlocked g before r = (h : TxnNo) × (blocks g before r h ≡ true)
+IsBlocked g before r = ¬ (IsFree g before r)
 
 -- the requests that count as earlier than a new one: for who has something on the name, only those of others who have
 abbrev pub earlier : Lock → Request → List Request

@@ -1,0 +1,149 @@
+//! The lock table: who has which locks, and who waits.
+
+ghost use Rattle.std.specs.Prelude.{◌≡◌, ◌⊎◌, ◌≤◌, ◌<◌, ◌+◌, ◌-◌, ◌&&◌, ◌||◌, ℕ, true, false, not, [], ◌∷◌, ◌++◌, Some, None, OnOk, OnErr, if◌then◌else◌, MatchOption, IsTrue, ◌↔◌, max};
+ghost use Rattle.dby_types.specs.declared.number.TxnNo.{TxnNo};
+ghost use Rattle.lock_modes.specs.Names.{same_txn};
+ghost use Rattle.lock_modes.specs.Lock.{no_locks, apply, request, has_grant};
+ghost use Rattle.lock_modes.specs.Waits.{waiting, IsSettled, AllBlocked};
+ghost use Rattle.lock_modes.specs.Proper.{IsRefused};
+ghost use Rattle.lock_modes.specs.declared.event.LockEvent.TheVariants.{Granted, Queued, Released, ReleasedAll, Chosen};
+ghost use Rattle.lock_manager.specs.Room.{HasRoom, Waiters-prop, AllBlocked-prop};
+ghost use Rattle.lock_manager.specs.Owners.{left_sum, waits_in, grants_in};
+ghost use Rattle.lock_manager.specs.Serve.{Waiters, is_among};
+
+use crate::owners::{self, Owners};
+use crate::tried::Tried;
+use crate::queue::{in_way, serve, waits};
+use dby_types::number::TxnNo;
+use lock_modes::entry::Request;
+use lock_modes::mode::Mode;
+use lock_modes::name::LockName;
+use std::alloc::Global;
+use std::collections::{HashMap, VecDeque};
+
+/// Who has which locks, and who waits.
+#[derive(Drop)]
+pub struct LockTable {
+    owners: Owners,
+    /// For how many names more all transactions may ask.
+    left: usize,
+    conversions: Vec<Request>,
+    requests: Vec<Request>,
+    woken: VecDeque<Request>,
+    ghost total: { left ≡ left_sum owners.entries },
+    ghost room: { HasRoom left conversions requests woken },
+    ghost waiters: { Waiters owners.entries (conversions.items ++ requests.items) } by { Waiters-prop _ _ },
+    ghost only: { (t : TxnNo) → waits_in owners.entries t ≡ is_among t (conversions.items ++ requests.items) },
+    ghost settled: { AllBlocked (grants_in owners.entries) [] (conversions.items ++ requests.items) } by { AllBlocked-prop _ _ _ },
+}
+
+impl LockTable {
+    ghost use Rattle.lock_manager.specs.Table.{lock, spare_of, woken_of, IsCause, IsHindrance, IsSpent, Gives};
+
+    /// A table without locks.
+    pub fn new(alloc: Global) -> LockTable
+        ensures none { lock result ≡ no_locks }
+        ensures room { (t : TxnNo) → spare_of result t ≡ 0 }
+        ensures woken { woken_of result ≡ [] }
+    {
+        LockTable {
+            owners: HashMap::new(alloc),
+            left: 0,
+            conversions: Vec::new(alloc),
+            requests: Vec::new(alloc),
+            woken: VecDeque::new(alloc),
+        }
+    }
+
+    /// Whether a transaction was chosen as a victim.
+    pub fn is_victim(&self, t: TxnNo) -> bool
+        ensures exact { result ≡ (lock self.now).victims t }
+    {
+        owners::is_victim(&self.owners, t)
+    }
+
+    /// A queued request that was granted and not given yet, in the order of the grants.
+    pub fn woken(&mut self) -> Option<(TxnNo, LockName, Mode)>
+        ensures given { MatchOption result (woken_of self.old ≡ []) (λ g. woken_of self.old ≡ request g.0 g.1 g.2 ∷ woken_of self.new) }
+        ensures none { result ≡ None → woken_of self.new ≡ [] }
+        ensures same { lock self.new ≡ lock self.old }
+        ensures room { (t : TxnNo) → spare_of self.new t ≡ spare_of self.old t }
+    {
+        let r = self.woken.pop_front()?;
+        Some((r.txn, r.name, r.mode))
+    }
+
+    /// Whether a transaction waits for nothing.
+    pub fn granted(&self, t: TxnNo) -> bool
+        ensures exact { IsTrue result ↔ (waiting (lock self.now) t ≡ None) }
+    {
+        !waits(&self.conversions, &self.requests, t)
+    }
+
+    /// Notes a waiting transaction as the victim of a cycle.
+    pub fn choose(&mut self, t: TxnNo)
+        requires waits { waits_in self.old.owners.entries t ≡ true }
+        ensures events { lock self.new ≡ apply (lock self.old) (Chosen t) }
+        ensures woken { woken_of self.new ≡ woken_of self.old }
+        ensures room { (u : TxnNo) → spare_of self.new u ≡ spare_of self.old u }
+    {
+        owners::choose(&mut self.owners, t);
+    }
+
+    /// Who is in the way of a request: nobody where what the transaction has covers it.
+    fn hindrance(&self, r: Request) -> Option<TxnNo>
+        ensures cause { IsHindrance (lock self.now) r result }
+    {
+        let modes = owners::modes_of(&self.owners, r.txn, r.name);
+        if modes.covers(r.mode) {
+            return None;
+        }
+        if modes.is_held() {
+            in_way(&self.owners, &self.conversions, &[], r)
+        } else {
+            in_way(&self.owners, &self.conversions, &self.requests, r)
+        }
+    }
+
+    /// Asks for a mode on a name, and has it at once or not at all.
+    pub fn try_lock(&mut self, t: TxnNo, name: LockName, mode: Mode) -> Tried
+        requires idle { waiting (lock self.old) t ≡ None }
+        requires room { (has_grant (lock self.old).grants t name ≡ true) ⊎ (0 < spare_of self.old t) }
+        ensures cause { IsCause (lock self.old) (request t name mode) result }
+        ensures ok { result ≡ Tried.Granted → lock self.new ≡ apply (lock self.old) (Granted t name mode) }
+        ensures err { (h : TxnNo) → result ≡ Tried.Conflict h → lock self.new ≡ lock self.old }
+        ensures room { result ≡ Tried.Granted → IsSpent self.old self.new t (has_grant (lock self.old).grants t name) }
+        ensures woken { woken_of self.new ≡ woken_of self.old }
+        ensures held { (h : TxnNo) → result ≡ Tried.Conflict h → (u : TxnNo) → spare_of self.new u ≡ spare_of self.old u }
+    {
+        let r = Request { txn: t, name, mode };
+        match self.hindrance(r) {
+            Some(h) => Tried::Conflict(h),
+            None => {
+                self.grant(r);
+                Tried::Granted
+            }
+        }
+    }
+
+    /// Adds a mode to what a transaction has.
+    fn grant(&mut self, r: Request)
+        requires idle { waiting (lock self.old) r.txn ≡ None }
+        requires room { (has_grant (lock self.old).grants r.txn r.name ≡ true) ⊎ (0 < spare_of self.old r.txn) }
+        ensures ok { lock self.new ≡ apply (lock self.old) (Granted r.txn r.name r.mode) }
+        ensures room { IsSpent self.old self.new r.txn (has_grant (lock self.old).grants r.txn r.name) }
+        ensures woken { woken_of self.new ≡ woken_of self.old }
+    {
+        let held = owners::modes_of(&self.owners, r.txn, r.name).is_held();
+        owners::grant(&mut self.owners, r);
+        self.left = less_one(self.left, held);
+    }
+}
+
+/// What is left after a grant, where a name that is held already costs nothing.
+fn less_one(left: usize, held: bool) -> usize
+    requires { (held ≡ true) ⊎ (0 < left) }
+    ensures exact { result ≡ (if held then left else left - 1) }
+{
+    if held { left } else { left - 1 }
+}
