@@ -4,3 +4,4 @@ pub mod OwnersLemmas
 pub mod ServeLemmas
 pub mod BlockedLemmas
 pub mod TableLemmas
+pub mod BothLemmas

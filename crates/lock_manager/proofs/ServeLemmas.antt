@@ -102,7 +102,7 @@ none_mid p (y ∷ a) b x h =
     (r.0, ap (λ w. w || list_any p (a ++ b)) q.0 ∙ r.1)
 
 -- those who wait, where room is given up for somebody else
-waiters_keep : (os os' : Owners) (t : TxnNo) → ((u : TxnNo) → same_txn t u ≡ false → waits_in os' u ≡ waits_in os u)
+pub waiters_keep : (os os' : Owners) (t : TxnNo) → ((u : TxnNo) → same_txn t u ≡ false → waits_in os' u ≡ waits_in os u)
     → (rs : List Request) → is_among t rs ≡ false → Waiters os rs → Waiters os' rs
 waiters_keep os os' t same [] h w = tt
 waiters_keep os os' t same (q ∷ rs) h w =

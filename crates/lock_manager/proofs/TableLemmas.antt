@@ -1,5 +1,5 @@
 -- What a call keeps of a lock table.
-use Rattle.std.proofs.Common.{◌≡◌, ℕ, ◌+◌, ◌-◌, ◌<◌, ◌≤◌, Bool, true, false, refl, sym, ◌∙◌, ap, cond, List, [], ◌∷◌, ◌++◌, subst, ◌⊎◌, inl, inr, arith, Option, Some, None, append_assoc}
+use Rattle.std.proofs.Common.{◌≡◌, ℕ, ◌+◌, ◌-◌, ◌<◌, ◌≤◌, Bool, true, false, refl, sym, ◌∙◌, ap, cond, List, [], ◌∷◌, ◌++◌, subst, ◌⊎◌, inl, inr, arith, Option, Some, None, append_assoc, append-nil}
 use Rattle.std.specs.Prelude.{◌&&◌, ◌||◌, not, if◌then◌else◌, IsTrue, ◌↔◌}
 use Rattle.std.specs.List.{list_any, find}
 use Rattle.std.specs.Map.{lookup}
@@ -9,13 +9,14 @@ use Rattle.dby_types.specs.declared.number.TxnNo.{TxnNo}
 use Rattle.lock_modes.specs.declared.entry.Request.{Request}
 use Rattle.lock_modes.specs.declared.name.LockName.{LockName}
 use Rattle.lock_modes.specs.Names.{same_txn, same_name}
-use Rattle.lock_modes.specs.Lock.{Lock, Grants, granted, queue, without_request, has_grant}
+use Rattle.lock_modes.specs.Lock.{Lock, Grants, granted, queue, without_request, has_grant, queued}
 use Rattle.lock_modes.specs.Modes.{is_held}
 use Rattle.lock_modes.specs.Waits.{IsBlocked, AllBlocked, waiting}
-use Rattle.lock_modes.proofs.NamesLemmas.{txn_eq, txn_refl}
+use Rattle.lock_modes.specs.Proper.{IsRefused}
+use Rattle.lock_modes.proofs.NamesLemmas.{txn_eq, txn_refl, txn_equiv}
 use Rattle.lock_manager.specs.Owners.{Owners, owner_of, grants_in, left_in, left_of, victim_in, waits_in, left_sum, Changes}
 use Rattle.lock_manager.specs.Serve.{is_among, Waiters}
-use Rattle.lock_manager.proofs.ServeLemmas.{everywhere}
+use Rattle.lock_manager.proofs.ServeLemmas.{everywhere, waiters_keep}
 use Rattle.lock_manager.proofs.BlockedLemmas.{all_blocked_more, without_none}
 
 or_none : (a b : Bool) → (a || b) ≡ false → (a ≡ false) × (b ≡ false)
@@ -113,3 +114,59 @@ some_left os t held left h was = elim h [ inl k ↦ inl k | inr p ↦ inr (let w
 pub less_le : (held : Bool) (left : ℕ) → (if held then left else left - 1) ≤ left
 less_le true left = omega arith
 less_le false left = omega arith
+
+or_swap : (a s b : Bool) → (a || (s || b)) ≡ (s || (a || b))
+or_swap true true b = refl
+or_swap true false b = refl
+or_swap false s b = refl
+
+-- one request more in the midst
+pub among_insert : (t : TxnNo) (a b : List Request) (r : Request) → is_among t ((a ++ r ∷ []) ++ b) ≡ (same_txn r.txn t || is_among t (a ++ b))
+among_insert t [] b r = refl
+among_insert t (q ∷ a) b r = ap (λ x. same_txn q.txn t || x) (among_insert t a b r) ∙ or_swap (same_txn q.txn t) (same_txn r.txn t) (is_among t (a ++ b))
+
+txn_flip : (a b : TxnNo) → same_txn a b ≡ false → same_txn b a ≡ false
+txn_flip a b h = txn_equiv.symm b a ∙ h
+
+pub waiters_insert : (os os' : Owners) (r : Request) → ((u : TxnNo) → same_txn r.txn u ≡ false → waits_in os' u ≡ waits_in os u) → waits_in os' r.txn ≡ true
+    → (a b : List Request) → Waiters os (a ++ b) → is_among r.txn (a ++ b) ≡ false → Waiters os' ((a ++ r ∷ []) ++ b)
+waiters_insert os os' r same mine [] b w none = (mine, none, waiters_keep os os' r.txn same b none w)
+waiters_insert os os' r same mine (q ∷ a) b w none =
+    let p = or_none (same_txn q.txn r.txn) (is_among r.txn (a ++ b)) none in
+    let other = txn_flip q.txn r.txn p.0 in
+    (same q.txn other ∙ w.0, among_insert q.txn a b r ∙ ap (λ x. x || is_among q.txn (a ++ b)) other ∙ w.1, waiters_insert os os' r same mine a b w.2 p.1)
+
+-- who waits after one request more was queued
+pub only_insert : (os os' : Owners) (r : Request) → ((u : TxnNo) → same_txn r.txn u ≡ false → waits_in os' u ≡ waits_in os u) → waits_in os' r.txn ≡ true
+    → (a b : List Request) → ((u : TxnNo) → waits_in os u ≡ is_among u (a ++ b)) → (u : TxnNo) → waits_in os' u ≡ is_among u ((a ++ r ∷ []) ++ b)
+only_insert os os' r same mine a b only = everywhere (waits_in os') (λ u. is_among u ((a ++ r ∷ []) ++ b)) r.txn
+    (mine ∙ sym (among_insert r.txn a b r ∙ ap (λ x. x || is_among r.txn (a ++ b)) (txn_refl r.txn)))
+    (λ u other. same u other ∙ only u ∙ sym (among_insert u a b r ∙ ap (λ x. x || is_among u (a ++ b)) other))
+
+-- behind all
+pub behind_all : (a b : List Request) (r : Request) → ((a ++ b) ++ r ∷ []) ++ [] ≡ a ++ (b ++ r ∷ [])
+behind_all a b r = let one : List Request = r ∷ [] in append-nil ((a ++ b) ++ one) ∙ append_assoc a b one
+
+-- what is left once room was set aside
+pub set_aside : (os os' : Owners) (t : TxnNo) (g : Grants) (left : ℕ) → Changes os os' t g → left_in os' t + 1 ≡ left_in os t → left ≡ left_sum os → (0 < left) × (left - 1 ≡ left_sum os')
+set_aside os os' t g left c mine was =
+    let within = left_within os t in
+    let s = c.total in
+    (omega (arith, within, mine, was), omega (arith, s, mine, was, within))
+
+pub less_left : (os os' : Owners) (t : TxnNo) (g : Grants) → Changes os os' t g → left_in os' t + 1 ≡ left_in os t → (u : TxnNo) → left_in os' u ≡ (if same_txn t u then left_in os u - 1 else left_in os u)
+less_left os os' t g c mine = everywhere (left_in os') (λ u. if same_txn t u then left_in os u - 1 else left_in os u) t
+    ((let e : left_in os' t ≡ left_in os t - 1 = omega (arith, mine) in e) ∙ ap (λ b. if b then left_in os t - 1 else left_in os t) (sym (txn_refl t)))
+    (λ u other. c.others_left u other ∙ ap (λ b. if b then left_in os u - 1 else left_in os u) (sym other))
+
+pub earlier_held : (l : Lock) (r : Request) (b : Bool) → b ≡ is_held (l.grants r.txn r.name) → b ≡ true → IsRefused l r → IsBlocked l.grants l.conversions r
+earlier_held l r b e h k = subst (λ (x : Bool). IsBlocked l.grants (cond x l.conversions (queue l)) r) (sym e ∙ h) k.blocked
+
+pub earlier_none : (l : Lock) (r : Request) (b : Bool) → b ≡ is_held (l.grants r.txn r.name) → b ≡ false → IsRefused l r → IsBlocked l.grants (queue l) r
+earlier_none l r b e h k = subst (λ (x : Bool). IsBlocked l.grants (cond x l.conversions (queue l)) r) (sym e ∙ h) k.blocked
+
+pub queued_held : (l : Lock) (r : Request) (b : Bool) → b ≡ is_held (l.grants r.txn r.name) → b ≡ true → record l { conversions = l.conversions ++ r ∷ [] } ≡ queued l r
+queued_held l r b e h = ap (λ x. cond x (record l { conversions = l.conversions ++ r ∷ [] }) (record l { requests = l.requests ++ r ∷ [] })) (sym h ∙ e)
+
+pub queued_none : (l : Lock) (r : Request) (b : Bool) → b ≡ is_held (l.grants r.txn r.name) → b ≡ false → record l { requests = l.requests ++ r ∷ [] } ≡ queued l r
+queued_none l r b e h = ap (λ x. cond x (record l { conversions = l.conversions ++ r ∷ [] }) (record l { requests = l.requests ++ r ∷ [] })) (sym h ∙ e)

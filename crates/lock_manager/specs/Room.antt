@@ -27,3 +27,12 @@ Waiters-prop os (r ∷ rs) = λ x y. λ i. (Bool-set _ _ x.0 y.0 i, Bool-set _ _
 pub AllBlocked-prop : (g : Grants) (b rs : List Request) → IsProp (AllBlocked g b rs)
 AllBlocked-prop g b [] = Unit-prop
 AllBlocked-prop g b (r ∷ rs) = λ x y. λ i. ((λ free. ⊥_prop (x.0 free) (y.0 free) i), AllBlocked-prop g (b ++ r ∷ []) rs x.1 y.1 i)
+
+-- no list needs more room than before, in the same room
+pub record FitsAsBefore {Z : Type 0} (cs rs : Vec Request Z) (ws : VecDeque Request Z) (cs' rs' : Vec Request Z) (ws' : VecDeque Request Z) : Type 0 where
+  pub conversions_shorter : vec_len cs' ≤ vec_len cs
+  pub conversions_room : vec_capacity cs' ≡ vec_capacity cs
+  pub requests_shorter : vec_len rs' ≤ vec_len rs
+  pub requests_room : vec_capacity rs' ≡ vec_capacity rs
+  pub woken_sum : deque_len ws' + (vec_len cs' + vec_len rs') ≡ deque_len ws + (vec_len cs + vec_len rs)
+  pub woken_room : deque_capacity ws' ≡ deque_capacity ws

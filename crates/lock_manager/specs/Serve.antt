@@ -5,6 +5,7 @@ use Rattle.dby_types.specs.declared.number.TxnNo.{TxnNo}
 use Rattle.lock_modes.specs.declared.entry.Request.{Request}
 use Rattle.lock_modes.specs.declared.name.LockName.{LockName}
 use Rattle.lock_modes.specs.Names.{same_txn}
+use Rattle.lock_modes.specs.Lock.{without_request}
 use Rattle.lock_modes.specs.Serving.{Serves, granted_all}
 use Rattle.lock_manager.specs.Owners.{Owners, grants_in, left_in, victim_in, waits_in, left_sum}
 
@@ -44,3 +45,18 @@ pub record Serving (old new : Owners) (before line line' : List Request) (i : �
   pub order : (w l : List Request) → Serves (grants_in new) (before ++ left) rest w l → Serves (grants_in old) before line (woken ++ w) (left ++ l)
   pub wakes : Wakes old new woken
   pub waiters : Waiters new (left ++ rest)
+
+-- a list of requests without those that were granted
+abbrev pub without_all : List Request → List Request → List Request
+without_all [] rs = rs
+without_all (w ∷ ws) rs = without_all ws (without_request w.txn w.name rs)
+
+-- both lines were served, the conversions first
+pub record ServedBoth (old new : Owners) (conversions requests conversions' requests' given given' : List Request) : Type 0 where
+  pub woken : List Request
+  pub noted : given' ≡ given ++ woken
+  pub order : Serves (grants_in old) [] (conversions ++ requests) woken (conversions' ++ requests')
+  pub wakes : Wakes old new woken
+  pub waiters : Waiters new (conversions' ++ requests')
+  pub conversions_are : without_all woken conversions ≡ conversions'
+  pub requests_are : without_all woken requests ≡ requests'

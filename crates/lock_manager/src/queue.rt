@@ -5,7 +5,8 @@ ghost use Rattle.dby_types.specs.declared.number.TxnNo.{TxnNo};
 ghost use Rattle.lock_modes.specs.Names.{same_txn, same_name};
 ghost use Rattle.lock_modes.specs.Waits.{asks_before, opposes, blocks, IsFree, IsBlocked};
 ghost use Rattle.lock_manager.specs.Owners.{grants_in};
-ghost use Rattle.lock_manager.specs.Serve.{Waiters, Served, is_among};
+ghost use Rattle.lock_manager.specs.Serve.{Waiters, Served, ServedBoth, is_among};
+ghost use Rattle.lock_manager.specs.Room.{FitsAsBefore};
 ghost use Rattle.std.specs.VecDeque.{deque_len, deque_capacity};
 ghost use Rattle.std.specs.Vec.{vec_len, vec_capacity};
 
@@ -88,4 +89,20 @@ pub fn waits(conversions: &[Request], requests: &[Request], t: TxnNo) -> bool
     ensures exact { result ≡ is_among t (conversions.now ++ requests.now) }
 {
     has_request(conversions, t) || has_request(requests, t)
+}
+
+/// Grants, in the order of the queue, each request that nothing is in the way of, and notes those that were granted.
+pub fn serve_both(
+    owners: &mut Owners,
+    conversions: &mut Vec<Request>,
+    requests: &mut Vec<Request>,
+    woken: &mut VecDeque<Request>,
+)
+    requires waiters { Waiters owners.old.entries (conversions.old.items ++ requests.old.items) }
+    requires room { deque_len woken.old + (vec_len conversions.old + vec_len requests.old) ≤ deque_capacity woken.old }
+    ensures served { ServedBoth owners.old.entries owners.new.entries conversions.old.items requests.old.items conversions.new.items requests.new.items woken.old.items woken.new.items }
+    ensures room { FitsAsBefore conversions.old requests.old woken.old conversions.new requests.new woken.new }
+{
+    serve(owners, &[], conversions, woken);
+    serve(owners, conversions, requests, woken);
 }

@@ -3,8 +3,8 @@
 ghost use Rattle.std.specs.Prelude.{◌≡◌, ◌⊎◌, ◌≤◌, ◌<◌, ◌+◌, ◌-◌, ◌&&◌, ◌||◌, ℕ, true, false, not, [], ◌∷◌, ◌++◌, Some, None, OnOk, OnErr, if◌then◌else◌, MatchOption, IsTrue, ◌↔◌, max};
 ghost use Rattle.dby_types.specs.declared.number.TxnNo.{TxnNo};
 ghost use Rattle.lock_modes.specs.Names.{same_txn};
-ghost use Rattle.lock_modes.specs.Lock.{no_locks, apply, request, has_grant};
-ghost use Rattle.lock_modes.specs.Waits.{waiting, IsSettled, AllBlocked};
+ghost use Rattle.lock_modes.specs.Lock.{no_locks, apply, request, has_grant, queue};
+ghost use Rattle.lock_modes.specs.Waits.{waiting, IsSettled, IsBlocked, AllBlocked};
 ghost use Rattle.lock_modes.specs.Proper.{IsRefused};
 ghost use Rattle.lock_modes.specs.declared.event.LockEvent.TheVariants.{Granted, Queued, Released, ReleasedAll, Chosen};
 ghost use Rattle.lock_manager.specs.Room.{HasRoom, Waiters-prop, AllBlocked-prop};
@@ -124,6 +124,49 @@ impl LockTable {
                 Tried::Granted
             }
         }
+    }
+
+    /// Queues a request that would be refused now: behind those of its kind.
+    pub fn enqueue(&mut self, t: TxnNo, name: LockName, mode: Mode)
+        requires idle { waiting (lock self.old) t ≡ None }
+        requires room { 0 < spare_of self.old t }
+        requires refused { IsRefused (lock self.old) (request t name mode) }
+        ensures ok { lock self.new ≡ apply (lock self.old) (Queued t name mode) }
+        ensures room { (u : TxnNo) → spare_of self.new u ≡ (if same_txn t u then spare_of self.old u - 1 else spare_of self.old u) }
+        ensures woken { woken_of self.new ≡ woken_of self.old }
+    {
+        let r = Request { txn: t, name, mode };
+        if owners::modes_of(&self.owners, t, name).is_held() {
+            self.queue_conversion(r);
+        } else {
+            self.queue_request(r);
+        }
+    }
+
+    fn queue_conversion(&mut self, r: Request)
+        requires idle { waiting (lock self.old) r.txn ≡ None }
+        requires room { 0 < spare_of self.old r.txn }
+        requires blocked { IsBlocked (lock self.old).grants (lock self.old).conversions r }
+        ensures ok { lock self.new ≡ record (lock self.old) { conversions = (lock self.old).conversions ++ r ∷ [] } }
+        ensures room { (u : TxnNo) → spare_of self.new u ≡ (if same_txn r.txn u then spare_of self.old u - 1 else spare_of self.old u) }
+        ensures woken { woken_of self.new ≡ woken_of self.old }
+    {
+        owners::wait(&mut self.owners, r.txn);
+        self.left -= 1;
+        self.conversions.push_reserved(r);
+    }
+
+    fn queue_request(&mut self, r: Request)
+        requires idle { waiting (lock self.old) r.txn ≡ None }
+        requires room { 0 < spare_of self.old r.txn }
+        requires blocked { IsBlocked (lock self.old).grants (queue (lock self.old)) r }
+        ensures ok { lock self.new ≡ record (lock self.old) { requests = (lock self.old).requests ++ r ∷ [] } }
+        ensures room { (u : TxnNo) → spare_of self.new u ≡ (if same_txn r.txn u then spare_of self.old u - 1 else spare_of self.old u) }
+        ensures woken { woken_of self.new ≡ woken_of self.old }
+    {
+        owners::wait(&mut self.owners, r.txn);
+        self.left -= 1;
+        self.requests.push_reserved(r);
     }
 
     /// Adds a mode to what a transaction has.
