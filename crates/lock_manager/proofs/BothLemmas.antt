@@ -8,13 +8,15 @@ use Rattle.dby_types.specs.declared.number.TxnNo.{TxnNo}
 use Rattle.lock_modes.specs.declared.entry.Request.{Request}
 use Rattle.lock_modes.specs.declared.name.LockName.{LockName}
 use Rattle.lock_modes.specs.Names.{same_txn, same_name}
-use Rattle.lock_modes.specs.Lock.{Grants, granted, without_request}
-use Rattle.lock_modes.specs.Waits.{IsFree, IsBlocked}
-use Rattle.lock_modes.specs.Serving.{Serves, granted_all}
+use Rattle.lock_modes.specs.Lock.{Lock, Grants, granted, without_request, apply, apply_all}
+use Rattle.lock_modes.specs.declared.event.LockEvent.TheVariants.{Granted}
+use Rattle.lock_modes.specs.Waits.{IsFree, IsBlocked, AllBlocked}
+use Rattle.lock_modes.specs.Serving.{Serves, granted_all, grants_of}
 use Rattle.lock_modes.proofs.NamesLemmas.{txn_eq, txn_refl, txn_equiv, name_refl}
 use Rattle.lock_manager.specs.Owners.{Owners, grants_in, waits_in, left_in, victim_in, left_sum}
 use Rattle.lock_manager.specs.Serve.{is_among, Waiters, Wakes, Served, ServedBoth, without_all}
-use Rattle.lock_manager.proofs.BlockedLemmas.{without_none, serves_append}
+use Rattle.lock_manager.proofs.BlockedLemmas.{without_none, serves_append, served_blocked}
+use Rattle.lock_manager.proofs.TableLemmas.{lock_path}
 
 or_none : (a b : Bool) → (a || b) ≡ false → (a ≡ false) × (b ≡ false)
 or_none true b h = absurd (both_ways true h refl)
@@ -158,10 +160,55 @@ served_both a b c cs rs cs' rs' given given' given'' waiters x y =
     }
   where
     was_there : (p q : Bool) → (p ≡ false → q ≡ false) → q ≡ true → p ≡ true
-    was_there true q no h = refl
-    was_there false q no h = absurd (both_ways _ (no refl) h)
+    was_there true q gone h = refl
+    was_there false q gone h = absurd (both_ways _ (gone refl) h)
 
 -- the other requests still wait after the conversions were served
 pub waiters_second : (a b : Owners) (cs rs cs' given given' : List Request) → Waiters a (cs ++ rs) → Served a b [] cs cs' given given' → Waiters b rs
 waiters_second a b cs rs cs' given given' waiters x =
     waiters_others a b x.woken x.wakes rs (λ u h. (among_line (grants_in a) [] cs x.woken cs' x.order u (apart_lists a cs rs waiters u h)).0) (waiters_back a cs rs waiters)
+
+-- who is left of a line: those that were not granted
+pub among_left : (g : Grants) (b rs w l : List Request) → Serves g b rs w l → Apart rs → (u : TxnNo) → is_among u l ≡ (is_among u rs && not (is_among u w))
+among_left g b [] w l s a u = ap (λ x. is_among u x) s.1
+among_left g b (r ∷ rs) w l s a u = elim s [
+    inl k ↦
+      let rest = among_left (granted g r) b rs k.0 l k.3 a.1 u in
+      let gone = among_line (granted g r) b rs k.0 l k.3 r.txn a.0 in
+      let cases = λ (x : Bool) (e : same_txn r.txn u ≡ x).
+      (elim x as (λ y. same_txn r.txn u ≡ y → is_among u l ≡ ((y || is_among u rs) && not (y || is_among u k.0)))
+      [ true ↦ λ t. ap (λ z. is_among z l) (sym (txn_eq r.txn u t)) ∙ gone.1 | false ↦ λ _. rest ]) e in
+      cases (same_txn r.txn u) refl ∙ ap (λ x. (same_txn r.txn u || is_among u rs) && not (is_among u x)) (sym k.1)
+  | inr k ↦
+      let rest = among_left g (b ++ r ∷ []) rs w k.0 k.3 a.1 u in
+      let gone = among_line g (b ++ r ∷ []) rs w k.0 k.3 r.txn a.0 in
+      let cases = λ (x : Bool) (e : same_txn r.txn u ≡ x).
+      (elim x as (λ y. same_txn r.txn u ≡ y → (y || is_among u k.0) ≡ ((y || is_among u rs) && not (is_among u w)))
+      [ true ↦ λ t. ap not (sym (ap (λ z. is_among z w) (sym (txn_eq r.txn u t)) ∙ gone.0)) | false ↦ λ _. rest ]) e in
+      ap (λ x. is_among u x) k.1 ∙ cases (same_txn r.txn u) refl ]
+
+-- the state after the grants of a list of requests
+pub after_grants : (l : Lock) (ws : List Request) → apply_all l (grants_of ws) ≡ record { grants = granted_all l.grants ws; conversions = without_all ws l.conversions; requests = without_all ws l.requests; victims = l.victims }
+after_grants l [] = refl
+after_grants l (r ∷ ws) = after_grants (apply l (Granted r.txn r.name r.mode)) ws
+
+-- who waits once the line was served
+pub only_left : (a c : Owners) (cs rs cs' rs' given given' : List Request) → Waiters a (cs ++ rs) → ((u : TxnNo) → waits_in a u ≡ is_among u (cs ++ rs))
+    → ServedBoth a c cs rs cs' rs' given given' → (u : TxnNo) → waits_in c u ≡ is_among u (cs' ++ rs')
+only_left a c cs rs cs' rs' given given' waiters only s u =
+    s.wakes.waits u ∙ ap (λ x. x && not (is_among u s.woken)) (only u) ∙ sym (among_left (grants_in a) [] (cs ++ rs) s.woken (cs' ++ rs') s.order (apart_of a (cs ++ rs) waiters) u)
+
+pub settled_both : (a c : Owners) (cs rs cs' rs' given given' : List Request) → ServedBoth a c cs rs cs' rs' given given' → AllBlocked (grants_in c) [] (cs' ++ rs')
+settled_both a c cs rs cs' rs' given given' s =
+    let path : grants_in c ≡ granted_all (grants_in a) s.woken = λ i u n. s.wakes.grants u n i in
+    subst (λ (g : Grants). AllBlocked g [] (cs' ++ rs')) (sym path) (served_blocked (grants_in a) [] (cs ++ rs) s.woken (cs' ++ rs') s.order)
+
+-- the state once all was served, where l was the state before
+pub state_both : (a c : Owners) (l : Lock) (cs' rs' given given' : List Request) (victims : TxnNo → Bool)
+    → grants_in a ≡ l.grants → ((u : TxnNo) → victim_in a u ≡ l.victims u)
+    → (s : ServedBoth a c l.conversions l.requests cs' rs' given given')
+    → record { grants = grants_in c; conversions = cs'; requests = rs'; victims = victim_in c } ≡ apply_all l (grants_of s.woken)
+state_both a c l cs' rs' given given' victims grants same s =
+    let path : grants_in c ≡ granted_all l.grants s.woken = (λ i u n. s.wakes.grants u n i) ∙ ap (λ (g : Grants). granted_all g s.woken) grants in
+    let noted : victim_in c ≡ l.victims = λ i u. (s.wakes.victims u ∙ same u) i in
+    lock_path _ _ path (sym s.conversions_are) (sym s.requests_are) noted ∙ sym (after_grants l s.woken)

@@ -13,7 +13,7 @@ ghost use Rattle.lock_manager.specs.Serve.{Waiters, is_among};
 
 use crate::owners::{self, Owners};
 use crate::tried::Tried;
-use crate::queue::{in_way, serve, waits};
+use crate::queue::{in_way, serve_both, waits};
 use dby_types::number::TxnNo;
 use lock_modes::entry::Request;
 use lock_modes::mode::Mode;
@@ -167,6 +167,22 @@ impl LockTable {
         owners::wait(&mut self.owners, r.txn);
         self.left -= 1;
         self.requests.push_reserved(r);
+    }
+
+    /// Gives back all that a transaction has on a name, and grants what can be granted then.
+    pub fn release(&mut self, t: TxnNo, name: LockName)
+        requires idle { waiting (lock self.old) t ≡ None }
+        ensures ok { Gives self.old self.new (Released t name ∷ []) }
+        ensures settled { IsSettled (lock self.new) }
+        ensures room { (u : TxnNo) → spare_of self.new u ≡ spare_of self.old u }
+    {
+        owners::release(&mut self.owners, t, name);
+        serve_both(
+            &mut self.owners,
+            &mut self.conversions,
+            &mut self.requests,
+            &mut self.woken,
+        );
     }
 
     /// Adds a mode to what a transaction has.
