@@ -4,11 +4,12 @@ use Rattle.std.specs.Prelude.{◌&&◌, ◌||◌, not}
 use Rattle.std.specs.List.{list_any, filter}
 use Rattle.std.proofs.lemmas.List.Folds.{list_any-append}
 use Rattle.std.proofs.lemmas.Bool.{both_ways, and_from, or_cases, or_left, or_right}
+use Rattle.std.proofs.lemmas.List.Elements.{filter-append}
 use Rattle.dby_types.specs.declared.number.TxnNo.{TxnNo}
 use Rattle.lock_modes.specs.declared.entry.Request.{Request}
 use Rattle.lock_modes.specs.declared.name.LockName.{LockName}
 use Rattle.lock_modes.specs.Names.{same_txn, same_name}
-use Rattle.lock_modes.specs.Lock.{Lock, Grants, granted, without_request, apply, apply_all}
+use Rattle.lock_modes.specs.Lock.{Lock, Grants, granted, without_request, without, apply, apply_all}
 use Rattle.lock_modes.specs.declared.event.LockEvent.TheVariants.{Granted}
 use Rattle.lock_modes.specs.Waits.{IsFree, IsBlocked, AllBlocked}
 use Rattle.lock_modes.specs.Serving.{Serves, granted_all, grants_of}
@@ -212,3 +213,55 @@ state_both a c l cs' rs' given given' victims grants same s =
     let path : grants_in c ≡ granted_all l.grants s.woken = (λ i u n. s.wakes.grants u n i) ∙ ap (λ (g : Grants). granted_all g s.woken) grants in
     let noted : victim_in c ≡ l.victims = λ i u. (s.wakes.victims u ∙ same u) i in
     lock_path _ _ path (sym s.conversions_are) (sym s.requests_are) noted ∙ sym (after_grants l s.woken)
+
+-- the requests of the others
+among_without : (t u : TxnNo) (rs : List Request) → is_among u (without t rs) ≡ (not (same_txn t u) && is_among u rs)
+among_without t u rs =
+    let cases = λ (x : Bool) (e : same_txn t u ≡ x).
+    (elim x as (λ y. same_txn t u ≡ y → is_among u (without t rs) ≡ (not y && is_among u rs))
+    [ true ↦ λ s. ap (λ z. is_among z (without t rs)) (sym (txn_eq t u s)) ∙ mine rs | false ↦ λ s. others s rs ]) e in
+    cases (same_txn t u) refl
+  where
+    mine : (xs : List Request) → is_among t (without t xs) ≡ false
+    mine [] = refl
+    mine (r ∷ xs) =
+        let rest = mine xs in
+        let cases = λ (x : Bool) (e : same_txn r.txn t ≡ x).
+        (elim x as (λ y. same_txn r.txn t ≡ y → is_among t (cond (not y) (r ∷ without t xs) (without t xs)) ≡ false)
+        [ true ↦ λ _. rest | false ↦ λ s. ap (λ z. z || is_among t (without t xs)) s ∙ rest ]) e in
+        cases (same_txn r.txn t) refl
+    others : same_txn t u ≡ false → (xs : List Request) → is_among u (without t xs) ≡ is_among u xs
+    others other [] = refl
+    others other (r ∷ xs) =
+        let rest = others other xs in
+        let cases = λ (x : Bool) (e : same_txn r.txn t ≡ x).
+        (elim x as (λ y. same_txn r.txn t ≡ y → is_among u (cond (not y) (r ∷ without t xs) (without t xs)) ≡ (same_txn r.txn u || is_among u xs))
+        [ true ↦ λ s. rest ∙ ap (λ z. z || is_among u xs) (sym (ap (λ q. same_txn q u) (txn_eq r.txn t s) ∙ other)) | false ↦ λ s. ap (λ z. same_txn r.txn u || z) rest ]) e in
+        cases (same_txn r.txn t) refl
+
+among_less : (t u : TxnNo) (rs : List Request) → is_among u rs ≡ false → is_among u (without t rs) ≡ false
+among_less t u rs h = among_without t u rs ∙ ap (λ z. not (same_txn t u) && z) h ∙ none (not (same_txn t u))
+  where
+    none : (b : Bool) → (b && false) ≡ false
+    none true = refl
+    none false = refl
+
+-- those who wait, where somebody is gone
+waiters_without : (a b : Owners) (t : TxnNo) → ((u : TxnNo) → same_txn t u ≡ false → waits_in b u ≡ waits_in a u) → (rs : List Request) → Waiters a rs → Waiters b (without t rs)
+waiters_without a b t same [] w = tt
+waiters_without a b t same (r ∷ rs) w =
+    let rest = waiters_without a b t same rs w.2 in
+    let cases = λ (x : Bool) (e : same_txn r.txn t ≡ x).
+    (elim x as (λ y. same_txn r.txn t ≡ y → Waiters b (cond (not y) (r ∷ without t rs) (without t rs)))
+    [ true ↦ λ _. rest | false ↦ λ s. (same r.txn (txn_flip r.txn t false s) ∙ w.0, among_less t r.txn rs w.1, rest) ]) e in
+    cases (same_txn r.txn t) refl
+
+without_both : (t : TxnNo) (cs rs : List Request) → without t (cs ++ rs) ≡ without t cs ++ without t rs
+without_both t cs rs = filter-append (λ (r : Request). not (same_txn r.txn t)) cs rs
+
+pub waiters_gone : (a b : Owners) (t : TxnNo) → ((u : TxnNo) → same_txn t u ≡ false → waits_in b u ≡ waits_in a u) → (cs rs : List Request) → Waiters a (cs ++ rs) → Waiters b (without t cs ++ without t rs)
+waiters_gone a b t same cs rs w = subst (λ (x : List Request). Waiters b x) (without_both t cs rs) (waiters_without a b t same (cs ++ rs) w)
+
+pub only_gone : (a b : Owners) (t : TxnNo) → ((u : TxnNo) → waits_in b u ≡ (not (same_txn t u) && waits_in a u)) → (cs rs : List Request)
+    → ((u : TxnNo) → waits_in a u ≡ is_among u (cs ++ rs)) → (u : TxnNo) → waits_in b u ≡ is_among u (without t cs ++ without t rs)
+only_gone a b t same cs rs only u = same u ∙ ap (λ z. not (same_txn t u) && z) (only u) ∙ sym (among_without t u (cs ++ rs)) ∙ ap (λ x. is_among u x) (without_both t cs rs)

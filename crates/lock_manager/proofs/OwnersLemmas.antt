@@ -2,20 +2,24 @@
 use Rattle.std.proofs.Common.{◌≡◌, ℕ, Bool, true, false, refl, sym, ◌∙◌, ap, cond, List, [], ◌∷◌, ◌+◌, ◌-◌, ◌<◌, arith,  Option, Some, None, subst, ◌⊎◌, inl, inr}
 use Rattle.std.specs.Prelude.{◌&&◌, ◌||◌, not, if◌then◌else◌}
 use Rattle.std.specs.List.{list_any, sum_by}
-use Rattle.std.specs.Map.{lookup, set_value}
+use Rattle.std.specs.Option.{is_some}
+use Rattle.std.specs.Map.{lookup, set_value, remove_entry}
+use Rattle.std.specs.List.Sorted.{IsPermutation}
+use Rattle.std.proofs.lemmas.List.Recursion.{is_sum_by}
+use Rattle.std.proofs.lemmas.List.Sorted.{sum_by-IsPermutation}
 use Rattle.std.proofs.lemmas.Bool.{both_ways, or_left, or_right, and_parts, and_from}
 use Rattle.dby_types.specs.declared.number.TxnNo.{TxnNo}
 use Rattle.lock_modes.specs.declared.entry.Request.{Request}
 use Rattle.lock_modes.specs.declared.modes.Modes.{Modes}
 use Rattle.lock_modes.specs.declared.name.LockName.{LockName}
-use Rattle.lock_modes.specs.Lock.{Grants, granted, released}
+use Rattle.lock_modes.specs.Lock.{Grants, granted, released, released_all}
 use Rattle.lock_modes.specs.Modes.{no_modes, hinders, with_mode, is_held}
 use Rattle.lock_modes.specs.Names.{same_name, same_txn}
 use Rattle.lock_modes.proofs.ModesLemmas.{hinders_none, held_none}
 use Rattle.lock_modes.proofs.NamesLemmas.{txn_eq, txn_refl}
 use Rattle.lock_manager.specs.declared.owner.Owner.{Owner}
 use Rattle.lock_manager.specs.Holdings.{modes_in}
-use Rattle.lock_manager.specs.Owners.{Owners, owner_of, modes_of, grants_in, is_in_way, left_of, waits_of, victim_of, left_in, waits_in, victim_in, left_sum, Changes}
+use Rattle.lock_manager.specs.Owners.{Owners, owner_of, modes_of, grants_in, is_in_way, left_of, waits_of, victim_of, left_in, waits_in, victim_in, left_sum, Changes, IsSame}
 
 and_no : (a : Bool) → (a && false) ≡ false
 and_no true = refl
@@ -148,3 +152,63 @@ none_released m t n none u k =
 
 pub unchanged : (m : Owners) (t : TxnNo) (g : Grants) → ((u : TxnNo) (k : LockName) → grants_in m u k ≡ g u k) → Changes m m t g
 unchanged m t g grants = record { grants_are = grants; others_left = λ u h. refl; others_wait = λ u h. refl; others_victims = λ u h. refl; total = refl }
+
+-- the sum without one record
+pub sum_remove : (t : TxnNo) (os : Owners) → left_sum (remove_entry (same_txn t) os) + left_in os t ≡ left_sum os
+sum_remove t [] = refl
+sum_remove t (e ∷ es) =
+    let rest = sum_remove t es in
+    let cases = λ (b : Bool) (q : same_txn t e.0 ≡ b).
+    (elim b as (λ x. left_sum (cond x es (e ∷ remove_entry (same_txn t) es)) + left_of (cond x (Some e.1) (lookup (same_txn t) es)) ≡ e.1.left + left_sum es)
+    [ true ↦ (let g : left_sum es + e.1.left ≡ e.1.left + left_sum es = omega arith in g)
+    | false ↦ (let g : (e.1.left + left_sum (remove_entry (same_txn t) es)) + left_in es t ≡ e.1.left + left_sum es = omega (arith, rest) in g) ]) in
+    cases (same_txn t e.0) refl
+
+sum_is : (os : Owners) → left_sum os ≡ sum_by (λ (e : TxnNo × Owner). e.1.left) os
+sum_is os = is_sum_by left_sum (λ (e : TxnNo × Owner). e.1.left) refl (λ x xs. refl) os
+
+pub sum_permutation : (xs ys : Owners) → IsPermutation xs ys → left_sum xs ≡ left_sum ys
+sum_permutation xs ys p = sum_is xs ∙ sym (sum_by-IsPermutation (λ (e : TxnNo × Owner). e.1.left) xs ys p) ∙ sym (sum_is ys)
+
+-- who is gone has nothing
+pub removed_grants : (m n : Owners) (t : TxnNo) → ((q : TxnNo) → lookup (same_txn q) n ≡ cond (same_txn t q) None (lookup (same_txn q) m))
+    → (u : TxnNo) (k : LockName) → grants_in n u k ≡ released_all (grants_in m) t u k
+removed_grants m n t put u k = put_owner (λ z. modes_of z k) m n t None put u
+
+-- what is read stays where a transaction gets a record that tells nothing new
+fresh : {X : Type 0} (f : Option Owner → X) (m n : Owners) (t : TxnNo) (o : Owner) → f (Some o) ≡ f None → lookup (same_txn t) m ≡ None
+    → ((q : TxnNo) → lookup (same_txn q) n ≡ cond (same_txn t q) (Some o) (lookup (same_txn q) m)) → (u : TxnNo) → f (lookup (same_txn u) n) ≡ f (lookup (same_txn u) m)
+fresh f m n t o new none put u =
+    put_owner f m n t (Some o) put u ∙ ap (λ v. cond (same_txn t u) v (f (lookup (same_txn u) m))) new
+    ∙ read_owner f m t u None (λ v. v) (f (lookup (same_txn u) m)) none ∙ both_same (same_txn t u) (f (lookup (same_txn u) m))
+
+pub opened : (m n : Owners) (t : TxnNo) (o : Owner) → ((k : LockName) → modes_in o.holdings k ≡ no_modes) → o.left ≡ 0 → o.waits ≡ false → o.victim ≡ false
+    → lookup (same_txn t) m ≡ None → ((q : TxnNo) → lookup (same_txn q) n ≡ cond (same_txn t q) (Some o) (lookup (same_txn q) m))
+    → IsPermutation ((t, o) ∷ m) n → IsSame m n
+opened m n t o nothing left waits victim none put all =
+    let sum = sum_permutation ((t, o) ∷ m) n all in
+    record {
+      grants = λ u k. fresh (λ z. modes_of z k) m n t o (nothing k) none put u;
+      lefts = fresh left_of m n t o left none put;
+      waits = fresh waits_of m n t o waits none put;
+      victims = fresh victim_of m n t o victim none put;
+      total = omega (arith, sum, left)
+    }
+
+pub itself : (m : Owners) → IsSame m m
+itself m = record { grants = λ u k. refl; lefts = λ u. refl; waits = λ u. refl; victims = λ u. refl; total = refl }
+
+pub nobody : (o : Option Owner) → is_some o ≡ false → o ≡ None
+nobody None h = refl
+nobody (Some o) h = absurd (both_ways _ h refl)
+
+-- what every transaction has stays where the changed record has the same modes
+pub same_modes : (m n : Owners) (t : TxnNo) (o w : Owner)
+    → ((q : TxnNo) → lookup (same_txn q) n ≡ cond (same_txn t q) (Some w) (lookup (same_txn q) m))
+    → Some o ≡ lookup (same_txn t) m → ((k : LockName) → modes_in w.holdings k ≡ modes_in o.holdings k)
+    → (u : TxnNo) (k : LockName) → grants_in n u k ≡ grants_in m u k
+same_modes m n t o w put was same u k =
+    put_owner (λ z. modes_of z k) m n t (Some w) put u
+    ∙ ap (λ v. cond (same_txn t u) v (grants_in m u k)) (same k)
+    ∙ read_owner (λ z. modes_of z k) m t u (Some o) (λ v. v) (grants_in m u k) (sym was)
+    ∙ both_same (same_txn t u) (grants_in m u k)

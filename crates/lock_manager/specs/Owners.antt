@@ -67,3 +67,17 @@ pub record Changes (old new : Owners) (t : TxnNo) (grants : Grants) : Type 0 whe
   pub others_wait : (u : TxnNo) → same_txn t u ≡ false → waits_in new u ≡ waits_in old u
   pub others_victims : (u : TxnNo) → same_txn t u ≡ false → victim_in new u ≡ victim_in old u
   pub total : left_sum new + left_in old t ≡ left_sum old + left_in new t
+
+-- one transaction's record is gone, and the others' stay
+pub record IsGone (old new : Owners) (t : TxnNo) : Type 0 where
+  pub lefts : (u : TxnNo) → left_in new u ≡ (if same_txn t u then 0 else left_in old u)
+  pub waits : (u : TxnNo) → waits_in new u ≡ (not (same_txn t u) && waits_in old u)
+  pub victims : (u : TxnNo) → victim_in new u ≡ (not (same_txn t u) && victim_in old u)
+
+-- all that is told of the transactions stays
+pub record IsSame (old new : Owners) : Type 0 where
+  pub grants : (u : TxnNo) (n : LockName) → grants_in new u n ≡ grants_in old u n
+  pub lefts : (u : TxnNo) → left_in new u ≡ left_in old u
+  pub waits : (u : TxnNo) → waits_in new u ≡ waits_in old u
+  pub victims : (u : TxnNo) → victim_in new u ≡ victim_in old u
+  pub total : left_sum new ≡ left_sum old

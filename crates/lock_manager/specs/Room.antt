@@ -36,3 +36,15 @@ pub record FitsAsBefore {Z : Type 0} (cs rs : Vec Request Z) (ws : VecDeque Requ
   pub requests_room : vec_capacity rs' ≡ vec_capacity rs
   pub woken_sum : deque_len ws' + (vec_len cs' + vec_len rs') ≡ deque_len ws + (vec_len cs + vec_len rs)
   pub woken_room : deque_capacity ws' ≡ deque_capacity ws
+
+-- the lists are as before, in no less room
+pub record Grows {Z : Type 0} (cs rs : Vec Request Z) (ws : VecDeque Request Z) (cs' rs' : Vec Request Z) (ws' : VecDeque Request Z) : Type 0 where
+  pub conversions_are : cs'.items ≡ cs.items
+  pub requests_are : rs'.items ≡ rs.items
+  pub woken_are : ws'.items ≡ ws.items
+  pub conversions_len : vec_len cs' ≡ vec_len cs
+  pub requests_len : vec_len rs' ≡ vec_len rs
+  pub woken_len : deque_len ws' ≡ deque_len ws
+  pub conversions_room : vec_capacity cs ≤ vec_capacity cs'
+  pub requests_room : vec_capacity rs ≤ vec_capacity rs'
+  pub woken_room : deque_capacity ws ≤ deque_capacity ws'

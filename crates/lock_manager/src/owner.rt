@@ -1,6 +1,6 @@
 //! One open transaction.
 
-ghost use Rattle.std.specs.Prelude.{◌≡◌, ◌≤◌, ◌<◌, ◌+◌, ◌-◌, ◌⊎◌, true, false, if◌then◌else◌};
+ghost use Rattle.std.specs.Prelude.{◌≡◌, ◌≤◌, ◌<◌, ◌+◌, ◌-◌, ◌⊎◌, true, false, is_ok, if◌then◌else◌};
 ghost use Rattle.std.specs.HashMap.{spare};
 ghost use Rattle.lock_modes.specs.Modes.{with_mode, no_modes, is_held};
 ghost use Rattle.lock_modes.specs.Names.{same_name};
@@ -10,6 +10,7 @@ ghost use Rattle.lock_manager.specs.Holdings.{modes_in};
 use crate::holdings::Holdings;
 use lock_modes::mode::Mode;
 use lock_modes::name::LockName;
+use std::alloc::{AllocError, Global};
 
 /// An open transaction.
 #[derive(Drop)]
@@ -24,6 +25,33 @@ pub struct Owner {
 }
 
 impl Owner {
+    /// A transaction that has nothing and may ask for nothing.
+    pub fn new(alloc: Global) -> Owner
+        ensures modes { (k : LockName) → modes_in result.holdings k ≡ no_modes }
+        ensures left { result.left ≡ 0 }
+        ensures waits { result.waits ≡ false }
+        ensures victim { result.victim ≡ false }
+    {
+        Owner {
+            left: 0,
+            waits: false,
+            victim: false,
+            holdings: Holdings::new(alloc),
+        }
+    }
+
+    /// Lets it ask for n names, which are no fewer than before.
+    pub fn reserve(&mut self, n: u32) -> Result<(), AllocError>
+        ensures modes { (k : LockName) → modes_in self.new.holdings k ≡ modes_in self.old.holdings k }
+        ensures left { self.new.left ≡ (if is_ok result then n else self.old.left) }
+        ensures waits { self.new.waits ≡ self.old.waits }
+        ensures victim { self.new.victim ≡ self.old.victim }
+    {
+        self.holdings.reserve(n as usize + 1)?;
+        self.left = n;
+        Ok(())
+    }
+
     ghost use Rattle.lock_manager.specs.OwnerSteps.{GainsMode};
 
     /// Adds a mode on a name, for which one of the names that are left is spent if the transaction has nothing on it.

@@ -1,17 +1,19 @@
 //! The open transactions, with what each has.
 
-ghost use Rattle.std.specs.Prelude.{◌≡◌, ◌≤◌, ◌<◌, ◌+◌, ℕ, true, false, ◌⊎◌, ◌-◌, ◌&&◌, not, OnOk, OnErr, Some, None, if◌then◌else◌, MatchOption, length};
+ghost use Rattle.std.specs.Prelude.{◌≡◌, ◌≤◌, ◌<◌, ◌+◌, ℕ, true, false, ◌⊎◌, ◌-◌, ◌&&◌, not, OnOk, OnErr, Some, None, IsSome, is_ok, if◌then◌else◌, MatchOption, length};
 ghost use Rattle.dby_types.specs.declared.number.TxnNo.{TxnNo};
 ghost use Rattle.lock_modes.specs.Modes.{hinders, is_held};
-ghost use Rattle.lock_modes.specs.Lock.{granted, released};
+ghost use Rattle.lock_modes.specs.Lock.{granted, released, released_all};
 ghost use Rattle.lock_modes.specs.Names.{same_name, same_txn};
-ghost use Rattle.lock_manager.specs.Owners.{owner_of, grants_in, left_in, victim_in, waits_in, Changes};
+ghost use Rattle.lock_manager.specs.Owners.{owner_of, grants_in, left_in, victim_in, waits_in, left_sum, Changes, IsGone, IsSame};
+ghost use Rattle.lock_modes.specs.declared.name.LockName.{LockName};
 
 use crate::owner::Owner;
 use dby_types::number::TxnNo;
 use lock_modes::entry::Request;
 use lock_modes::modes::Modes;
 use lock_modes::name::{LockName, is_same_txn};
+use std::alloc::{AllocError, Global};
 use std::collections::HashMap;
 
 pub type Owners = HashMap<TxnNo, Owner>;
@@ -120,5 +122,40 @@ pub fn choose(owners: &mut Owners, txn: TxnNo)
 {
     if let Some(owner) = owners.get_mut(&txn) {
         owner.choose();
+    }
+}
+
+/// Takes a transaction's record away.
+pub fn remove(owners: &mut Owners, txn: TxnNo)
+    ensures grants { (u : TxnNo) (n : LockName) → grants_in owners.new.entries u n ≡ released_all (grants_in owners.old.entries) txn u n }
+    ensures gone { IsGone owners.old.entries owners.new.entries txn }
+    ensures total { left_sum owners.new.entries + left_in owners.old.entries txn ≡ left_sum owners.old.entries }
+{
+    let _ = owners.remove(&txn);
+}
+
+/// Gives a transaction a record, if it has none.
+pub fn open(owners: &mut Owners, alloc: Global, txn: TxnNo) -> Result<(), AllocError>
+    ensures same { IsSame owners.old.entries owners.new.entries }
+    ensures ok { OnOk result (IsSome (owner_of owners.new.entries txn)) }
+{
+    if owners.contains_key(&txn) {
+        return Ok(());
+    }
+    owners.insert(txn, Owner::new(alloc))?;
+    Ok(())
+}
+
+/// Lets a transaction that has a record ask for n names, which are no fewer than before.
+pub fn reserve(owners: &mut Owners, txn: TxnNo, n: u32) -> Result<(), AllocError>
+    requires { IsSome (owner_of owners.old.entries txn) }
+    ensures changes { Changes owners.old.entries owners.new.entries txn (grants_in owners.old.entries) }
+    ensures room { left_in owners.new.entries txn ≡ (if is_ok result then n else left_in owners.old.entries txn) }
+    ensures same { waits_in owners.new.entries txn ≡ waits_in owners.old.entries txn }
+    ensures victim { victim_in owners.new.entries txn ≡ victim_in owners.old.entries txn }
+{
+    match owners.get_mut(&txn) {
+        Some(owner) => owner.reserve(n),
+        None => Ok(()),
     }
 }

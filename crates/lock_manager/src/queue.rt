@@ -1,12 +1,13 @@
 //! Queued requests.
 
-ghost use Rattle.std.specs.Prelude.{◌≡◌, ◌≤◌, ◌<◌, ◌+◌, ℕ, true, false, ◌&&◌, not, MatchOption, length, ◌++◌};
+ghost use Rattle.std.specs.Prelude.{◌≡◌, ◌≤◌, ◌<◌, ◌+◌, ℕ, true, false, ◌&&◌, not, OnOk, MatchOption, length, ◌++◌};
 ghost use Rattle.dby_types.specs.declared.number.TxnNo.{TxnNo};
 ghost use Rattle.lock_modes.specs.Names.{same_txn, same_name};
+ghost use Rattle.lock_modes.specs.Lock.{without};
 ghost use Rattle.lock_modes.specs.Waits.{asks_before, opposes, blocks, IsFree, IsBlocked};
 ghost use Rattle.lock_manager.specs.Owners.{grants_in};
 ghost use Rattle.lock_manager.specs.Serve.{Waiters, Served, ServedBoth, is_among};
-ghost use Rattle.lock_manager.specs.Room.{FitsAsBefore};
+ghost use Rattle.lock_manager.specs.Room.{FitsAsBefore, Grows, HasRoom};
 ghost use Rattle.std.specs.VecDeque.{deque_len, deque_capacity};
 ghost use Rattle.std.specs.Vec.{vec_len, vec_capacity};
 
@@ -15,6 +16,7 @@ use dby_types::number::TxnNo;
 use lock_modes::entry::Request;
 use lock_modes::mode::compatible;
 use lock_modes::name::{is_same_name, is_same_txn};
+use std::alloc::AllocError;
 use std::collections::VecDeque;
 
 /// Whether a request is in the way of another on the same name.
@@ -105,4 +107,34 @@ pub fn serve_both(
 {
     serve(owners, &[], conversions, woken);
     serve(owners, conversions, requests, woken);
+}
+
+/// Takes a transaction's requests away.
+pub fn drop_requests(requests: &mut Vec<Request>, t: TxnNo)
+    ensures exact { requests.new.items ≡ without t requests.old.items }
+    ensures shorter { vec_len requests.new ≤ vec_len requests.old }
+    ensures held { vec_capacity requests.new ≡ vec_capacity requests.old }
+{
+    requests.retain(|q| !is_same_txn(q.txn, t));
+}
+
+/// Makes room for so many names more.
+pub fn make_room(
+    conversions: &mut Vec<Request>,
+    requests: &mut Vec<Request>,
+    woken: &mut VecDeque<Request>,
+    left: usize,
+) -> Result<(), AllocError>
+    ensures same { Grows conversions.old requests.old woken.old conversions.new requests.new woken.new }
+    ensures ok { OnOk result (HasRoom left conversions.new requests.new woken.new) }
+{
+    conversions.reserve(left)?;
+    requests.reserve(left)?;
+    let Some(waiting) = conversions.len().checked_add(requests.len()) else {
+        return Err(AllocError);
+    };
+    let Some(all) = waiting.checked_add(left) else {
+        return Err(AllocError);
+    };
+    woken.reserve(all)
 }

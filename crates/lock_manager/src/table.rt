@@ -13,7 +13,7 @@ ghost use Rattle.lock_manager.specs.Serve.{Waiters, is_among};
 
 use crate::owners::{self, Owners};
 use crate::tried::Tried;
-use crate::queue::{in_way, serve_both, waits};
+use crate::queue::{drop_requests, in_way, serve_both, waits};
 use dby_types::number::TxnNo;
 use lock_modes::entry::Request;
 use lock_modes::mode::Mode;
@@ -177,6 +177,26 @@ impl LockTable {
         ensures room { (u : TxnNo) → spare_of self.new u ≡ spare_of self.old u }
     {
         owners::release(&mut self.owners, t, name);
+        serve_both(
+            &mut self.owners,
+            &mut self.conversions,
+            &mut self.requests,
+            &mut self.woken,
+        );
+    }
+
+    /// Gives back all that a transaction has and asks for, with its spare and its note as a victim, and grants what can be
+    /// granted then.
+    pub fn release_all(&mut self, t: TxnNo)
+        ensures ok { Gives self.old self.new (ReleasedAll t ∷ []) }
+        ensures settled { IsSettled (lock self.new) }
+        ensures room { (u : TxnNo) → spare_of self.new u ≡ (if same_txn t u then 0 else spare_of self.old u) }
+    {
+        let left = owners::left(&self.owners, t);
+        owners::remove(&mut self.owners, t);
+        self.left -= left as usize;
+        drop_requests(&mut self.conversions, t);
+        drop_requests(&mut self.requests, t);
         serve_both(
             &mut self.owners,
             &mut self.conversions,
