@@ -1,7 +1,7 @@
 -- Requests that have to wait go on waiting while more is granted.
-use Rattle.std.proofs.Common.{◌≡◌, ℕ, Bool, true, false, refl, sym, ◌∙◌, ap, cond, List, [], ◌∷◌, ◌++◌, subst, ◌⊎◌, inl, inr, append_assoc, append-nil}
-use Rattle.std.specs.Prelude.{◌&&◌, ◌||◌, not, if◌then◌else◌}
-use Rattle.std.specs.List.{list_any, filter}
+use Rattle.std.proofs.Common.{◌≡◌, Bool, true, false, refl, sym, ◌∙◌, ap, cond, List, [], ◌∷◌, ◌++◌, subst, inl, inr, append_assoc, append-nil}
+use Rattle.std.specs.Prelude.{◌&&◌, ◌||◌, not}
+use Rattle.std.specs.List.{list_any}
 use Rattle.std.proofs.lemmas.List.Folds.{list_any-append}
 use Rattle.std.proofs.lemmas.Bool.{both_ways, and_parts, and_from, or_cases, or_left, or_right}
 use Rattle.dby_types.specs.declared.number.TxnNo.{TxnNo}
@@ -10,7 +10,7 @@ use Rattle.lock_modes.specs.declared.name.LockName.{LockName}
 use Rattle.lock_modes.specs.Names.{same_txn, same_name}
 use Rattle.lock_modes.specs.Lock.{Grants, granted, without_request}
 use Rattle.lock_modes.specs.Modes.{hinders, with_mode}
-use Rattle.lock_modes.specs.Waits.{blocks, asks_before, opposes, IsFree, IsBlocked, AllBlocked}
+use Rattle.lock_modes.specs.Waits.{blocks, asks_before, opposes, IsBlocked, AllBlocked}
 use Rattle.lock_modes.specs.Serving.{Serves, granted_all}
 use Rattle.lock_modes.proofs.ModesLemmas.{hinders_more}
 use Rattle.lock_manager.specs.Serve.{is_among}
@@ -28,8 +28,9 @@ wider : (g : Grants) (q : Request) (b b' : List Request) (r : Request) (h : TxnN
 wider g q b b' r h more x =
     let p = and_parts (not (same_txn h r.txn)) (hinders (g h r.name) r.mode || asks_before b r h) x in
     and_from _ _ p.0 (elim (or_cases (hinders (g h r.name) r.mode) (asks_before b r h) p.1) [
-        inl y ↦ or_left _ _ (hinders_granted g q r h y)
-      | inr z ↦ or_right (hinders (granted g q h r.name) r.mode) _ (more (λ s. same_txn s.txn h && opposes s r) z) ])
+      | inl y ↦ or_left _ _ (hinders_granted g q r h y)
+      | inr z ↦ or_right (hinders (granted g q h r.name) r.mode) _ (more (λ s. same_txn s.txn h && opposes s r) z)
+    ])
 
 -- nobody in the way of more was nobody in the way of less
 narrow : (x y : Bool) → (x ≡ true → y ≡ true) → y ≡ false → x ≡ false
@@ -72,22 +73,24 @@ all_blocked_back g b (x ∷ xs) ys k =
 pub served_blocked : (g : Grants) (b rs w l : List Request) → Serves g b rs w l → AllBlocked (granted_all g w) b l
 served_blocked g b [] w l s = subst (λ (x : List Request). AllBlocked (granted_all g w) b x) (sym s.1) tt
 served_blocked g b (r ∷ rs) w l s = elim s [
-    inl a ↦ subst (λ (x : List Request). AllBlocked (granted_all g x) b l) (sym a.1) (served_blocked (granted g r) b rs a.0 l a.3)
+  | inl a ↦ subst (λ (x : List Request). AllBlocked (granted_all g x) b l) (sym a.1) (served_blocked (granted g r) b rs a.0 l a.3)
   | inr k ↦ subst (λ (x : List Request). AllBlocked (granted_all g w) b x) (sym k.1)
-      (blocked_all g w b r k.2, served_blocked g (b ++ r ∷ []) rs w k.0 k.3) ]
+      (blocked_all g w b r k.2, served_blocked g (b ++ r ∷ []) rs w k.0 k.3)
+]
 
 -- serving two lists, one behind the other
 pub serves_append : (g : Grants) (b xs ys w v l m : List Request) → Serves g b xs w l → Serves (granted_all g w) (b ++ l) ys v m → Serves g b (xs ++ ys) (w ++ v) (l ++ m)
 serves_append g b [] ys w v l m s t =
     let first : Serves g b ys v m = subst (λ (x : List Request). Serves g x ys v m) (append-nil b)
-      (subst (λ (x : List Request). Serves g (b ++ x) ys v m) s.1 (subst (λ (x : List Request). Serves (granted_all g x) (b ++ l) ys v m) s.0 t)) in
+    (subst (λ (x : List Request). Serves g (b ++ x) ys v m) s.1 (subst (λ (x : List Request). Serves (granted_all g x) (b ++ l) ys v m) s.0 t)) in
     subst (λ (x : List Request). Serves g b ys (x ++ v) (l ++ m)) (sym s.0) (subst (λ (x : List Request). Serves g b ys v (x ++ m)) (sym s.1) first)
 serves_append g b (r ∷ xs) ys w v l m s t = elim s [
-    inl a ↦ inl (a.0 ++ v, ap (λ x. x ++ v) a.1, a.2, serves_append (granted g r) b xs ys a.0 v l m a.3 (subst (λ (x : List Request). Serves (granted_all g x) (b ++ l) ys v m) a.1 t))
+  | inl a ↦ inl (a.0 ++ v, ap (λ x. x ++ v) a.1, a.2, serves_append (granted g r) b xs ys a.0 v l m a.3 (subst (λ (x : List Request). Serves (granted_all g x) (b ++ l) ys v m) a.1 t))
   | inr k ↦
       let one : List Request = r ∷ [] in
       let lists : b ++ l ≡ (b ++ one) ++ k.0 = ap (λ x. b ++ x) k.1 ∙ sym (append_assoc b one k.0) in
-      inr (k.0 ++ m, ap (λ x. x ++ m) k.1, k.2, serves_append g (b ++ one) xs ys w v k.0 m k.3 (subst (λ (x : List Request). Serves (granted_all g w) x ys v m) lists t)) ]
+      inr (k.0 ++ m, ap (λ x. x ++ m) k.1, k.2, serves_append g (b ++ one) xs ys w v k.0 m k.3 (subst (λ (x : List Request). Serves (granted_all g w) x ys v m) lists t))
+]
 
 -- one request more in the midst
 any_mid : (p : Request → Bool) (a b : List Request) (r : Request) → list_any p (a ++ b) ≡ true → list_any p ((a ++ r ∷ []) ++ b) ≡ true
@@ -102,8 +105,9 @@ same_wider : (g : Grants) (b b' : List Request) (r : Request) (h : TxnNo)
 same_wider g b b' r h more x =
     let p = and_parts (not (same_txn h r.txn)) (hinders (g h r.name) r.mode || asks_before b r h) x in
     and_from _ _ p.0 (elim (or_cases (hinders (g h r.name) r.mode) (asks_before b r h) p.1) [
-        inl y ↦ or_left _ _ y
-      | inr z ↦ or_right (hinders (g h r.name) r.mode) _ (more (λ s. same_txn s.txn h && opposes s r) z) ])
+      | inl y ↦ or_left _ _ y
+      | inr z ↦ or_right (hinders (g h r.name) r.mode) _ (more (λ s. same_txn s.txn h && opposes s r) z)
+    ])
 
 pub all_blocked_wider : (g : Grants) (b b' rs : List Request) → ((p : Request → Bool) → list_any p b ≡ true → list_any p b' ≡ true) → AllBlocked g b rs → AllBlocked g b' rs
 all_blocked_wider g b b' [] more k = tt

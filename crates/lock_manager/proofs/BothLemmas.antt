@@ -1,20 +1,18 @@
 -- Serving the conversions and then the other requests.
-use Rattle.std.proofs.Common.{◌≡◌, ℕ, Bool, true, false, refl, sym, ◌∙◌, ap, cond, List, [], ◌∷◌, ◌++◌, subst, ◌⊎◌, inl, inr, append_assoc, append-nil}
+use Rattle.std.proofs.Common.{◌≡◌, Bool, true, false, refl, sym, ◌∙◌, ap, cond, List, [], ◌∷◌, ◌++◌, subst, inl, inr, append_assoc}
 use Rattle.std.specs.Prelude.{◌&&◌, ◌||◌, not}
-use Rattle.std.specs.List.{list_any, filter}
 use Rattle.std.proofs.lemmas.List.Folds.{list_any-append}
-use Rattle.std.proofs.lemmas.Bool.{both_ways, and_from, or_cases, or_left, or_right}
+use Rattle.std.proofs.lemmas.Bool.{both_ways, and_from, or_left, or_right}
 use Rattle.std.proofs.lemmas.List.Elements.{filter-append}
 use Rattle.dby_types.specs.declared.number.TxnNo.{TxnNo}
 use Rattle.lock_modes.specs.declared.entry.Request.{Request}
-use Rattle.lock_modes.specs.declared.name.LockName.{LockName}
 use Rattle.lock_modes.specs.Names.{same_txn, same_name}
 use Rattle.lock_modes.specs.Lock.{Lock, Grants, granted, without_request, without, apply, apply_all}
 use Rattle.lock_modes.specs.declared.event.LockEvent.TheVariants.{Granted}
-use Rattle.lock_modes.specs.Waits.{IsFree, IsBlocked, AllBlocked}
+use Rattle.lock_modes.specs.Waits.{AllBlocked}
 use Rattle.lock_modes.specs.Serving.{Serves, granted_all, grants_of}
 use Rattle.lock_modes.proofs.NamesLemmas.{txn_eq, txn_refl, txn_equiv, name_refl}
-use Rattle.lock_manager.specs.Owners.{Owners, grants_in, waits_in, left_in, victim_in, left_sum}
+use Rattle.lock_manager.specs.Owners.{Owners, grants_in, waits_in, victim_in}
 use Rattle.lock_manager.specs.Serve.{is_among, Waiters, Wakes, Served, ServedBoth, without_all}
 use Rattle.lock_manager.proofs.BlockedLemmas.{without_none, serves_append, served_blocked}
 use Rattle.lock_manager.proofs.TableLemmas.{lock_path}
@@ -59,8 +57,9 @@ among_line g b [] w l s u h = (ap (λ x. is_among u x) s.0, ap (λ x. is_among u
 among_line g b (r ∷ rs) w l s u h =
     let p = or_none (same_txn r.txn u) (is_among u rs) h in
     elim s [
-      inl a ↦ let k = among_line (granted g r) b rs a.0 l a.3 u p.1 in (ap (λ x. is_among u x) a.1 ∙ ap (λ x. x || is_among u a.0) p.0 ∙ k.0, k.1)
-    | inr k ↦ let j = among_line g (b ++ r ∷ []) rs w k.0 k.3 u p.1 in (j.0, ap (λ x. is_among u x) k.1 ∙ ap (λ x. x || is_among u k.0) p.0 ∙ j.1) ]
+      | inl a ↦ let k = among_line (granted g r) b rs a.0 l a.3 u p.1 in (ap (λ x. is_among u x) a.1 ∙ ap (λ x. x || is_among u a.0) p.0 ∙ k.0, k.1)
+      | inr k ↦ let j = among_line g (b ++ r ∷ []) rs w k.0 k.3 u p.1 in (j.0, ap (λ x. is_among u x) k.1 ∙ ap (λ x. x || is_among u k.0) p.0 ∙ j.1)
+    ]
 
 -- those who are not among the granted keep their place
 without_others : (w rs : List Request) → ((u : TxnNo) → is_among u w ≡ true → is_among u rs ≡ false) → without_all w rs ≡ rs
@@ -86,10 +85,11 @@ without_keeps r (x ∷ w) rs h =
 line_left : (g : Grants) (b rs w l : List Request) → Serves g b rs w l → Apart rs → without_all w rs ≡ l
 line_left g b [] w l s a = ap (λ x. without_all x []) s.0 ∙ sym s.1
 line_left g b (r ∷ rs) w l s a = elim s [
-    inl k ↦ ap (λ x. without_all x (r ∷ rs)) k.1 ∙ ap (λ y. without_all k.0 y) (without_first r rs a.0) ∙ line_left (granted g r) b rs k.0 l k.3 a.1
+  | inl k ↦ ap (λ x. without_all x (r ∷ rs)) k.1 ∙ ap (λ y. without_all k.0 y) (without_first r rs a.0) ∙ line_left (granted g r) b rs k.0 l k.3 a.1
   | inr k ↦
       let none = (among_line g (b ++ r ∷ []) rs w k.0 k.3 r.txn a.0).0 in
-      without_keeps r w rs none ∙ ap (λ x. r ∷ x) (line_left g (b ++ r ∷ []) rs w k.0 k.3 a.1) ∙ sym k.1 ]
+      without_keeps r w rs none ∙ ap (λ x. r ∷ x) (line_left g (b ++ r ∷ []) rs w k.0 k.3 a.1) ∙ sym k.1
+]
 
 without_append : (w v rs : List Request) → without_all (w ++ v) rs ≡ without_all v (without_all w rs)
 without_append [] v rs = refl
@@ -107,7 +107,7 @@ wakes_append a b c w v x y =
       lefts = λ u. y.lefts u ∙ x.lefts u;
       victims = λ u. y.victims u ∙ x.victims u;
       waits = λ u. y.waits u ∙ ap (λ z. z && not (is_among u v)) (x.waits u) ∙ and_not (waits_in a u) (is_among u w) (is_among u v) ∙ ap (λ z. waits_in a u && not z) (sym (list_any-append (λ q. same_txn q.txn u) w v));
-      total = y.total ∙ x.total
+      total = y.total ∙ x.total;
     }
   where
     and_not : (p q r : Bool) → ((p && not q) && not r) ≡ (p && not (q || r))
@@ -118,15 +118,19 @@ wakes_append a b c w v x y =
 -- who waits in one list after others were granted
 waiters_others : (a b : Owners) (w : List Request) → Wakes a b w → (rs : List Request) → ((u : TxnNo) → is_among u rs ≡ true → is_among u w ≡ false) → Waiters a rs → Waiters b rs
 waiters_others a b w x [] apart k = tt
-waiters_others a b w x (r ∷ rs) apart k =
-    (x.waits r.txn ∙ ap (λ z. waits_in a r.txn && not z) (apart r.txn (or_left _ _ (txn_refl r.txn))) ∙ and_from _ _ k.0 refl, k.1,
-    waiters_others a b w x rs (λ u h. apart u (or_right (same_txn r.txn u) _ h)) k.2)
+waiters_others a b w x (r ∷ rs) apart k = (
+  x.waits r.txn ∙ ap (λ z. waits_in a r.txn && not z) (apart r.txn (or_left _ _ (txn_refl r.txn))) ∙ and_from _ _ k.0 refl,
+  k.1,
+  waiters_others a b w x rs (λ u h. apart u (or_right (same_txn r.txn u) _ h)) k.2,
+)
 
 waiters_append : (os : Owners) (a b : List Request) → Waiters os a → Waiters os b → ((u : TxnNo) → is_among u a ≡ true → is_among u b ≡ false) → Waiters os (a ++ b)
 waiters_append os [] b x y apart = y
-waiters_append os (r ∷ a) b x y apart =
-    (x.0, list_any-append (λ q. same_txn q.txn r.txn) a b ∙ ap (λ z. z || is_among r.txn b) x.1 ∙ apart r.txn (or_left _ _ (txn_refl r.txn)),
-    waiters_append os a b x.2 y (λ u h. apart u (or_right (same_txn r.txn u) _ h)))
+waiters_append os (r ∷ a) b x y apart = (
+  x.0,
+  list_any-append (λ q. same_txn q.txn r.txn) a b ∙ ap (λ z. z || is_among r.txn b) x.1 ∙ apart r.txn (or_left _ _ (txn_refl r.txn)),
+  waiters_append os a b x.2 y (λ u h. apart u (or_right (same_txn r.txn u) _ h)),
+)
 
 -- of two that can't both be so, one isn't
 other : (x y : Bool) → (x ≡ true → y ≡ true → ⊥) → x ≡ true → y ≡ false
@@ -155,9 +159,9 @@ served_both a b c cs rs cs' rs' given given' given'' waiters x y =
       wakes = wakes_append a b c w v x.wakes y.wakes;
       waiters = waiters_append c cs' rs' (waiters_others b c v y.wakes cs' (λ u h. (in_second u (of_first u h)).0) x.waiters) y.waiters (λ u h. (in_second u (of_first u h)).1);
       conversions_are = without_append w v cs ∙ ap (λ z. without_all v z) (line_left (grants_in a) [] cs w cs' x.order (apart_of a cs (waiters_front a cs rs waiters)))
-        ∙ without_others v cs' (λ u h. (in_first u (woken_second u h)).1);
+          ∙ without_others v cs' (λ u h. (in_first u (woken_second u h)).1);
       requests_are = without_append w v rs ∙ ap (λ z. without_all v z) (without_others w rs (λ u h. other _ _ (never u) (woken_first u h)))
-        ∙ line_left (grants_in b) cs' rs v rs' y.order (apart_of a rs (waiters_back a cs rs waiters))
+          ∙ line_left (grants_in b) cs' rs v rs' y.order (apart_of a rs (waiters_back a cs rs waiters));
     }
   where
     was_there : (p q : Bool) → (p ≡ false → q ≡ false) → q ≡ true → p ≡ true
@@ -173,7 +177,7 @@ waiters_second a b cs rs cs' given given' waiters x =
 pub among_left : (g : Grants) (b rs w l : List Request) → Serves g b rs w l → Apart rs → (u : TxnNo) → is_among u l ≡ (is_among u rs && not (is_among u w))
 among_left g b [] w l s a u = ap (λ x. is_among u x) s.1
 among_left g b (r ∷ rs) w l s a u = elim s [
-    inl k ↦
+  | inl k ↦
       let rest = among_left (granted g r) b rs k.0 l k.3 a.1 u in
       let gone = among_line (granted g r) b rs k.0 l k.3 r.txn a.0 in
       let cases = λ (x : Bool) (e : same_txn r.txn u ≡ x).
@@ -186,7 +190,8 @@ among_left g b (r ∷ rs) w l s a u = elim s [
       let cases = λ (x : Bool) (e : same_txn r.txn u ≡ x).
       (elim x as (λ y. same_txn r.txn u ≡ y → (y || is_among u k.0) ≡ ((y || is_among u rs) && not (is_among u w)))
       [ true ↦ λ t. ap not (sym (ap (λ z. is_among z w) (sym (txn_eq r.txn u t)) ∙ gone.0)) | false ↦ λ _. rest ]) e in
-      ap (λ x. is_among u x) k.1 ∙ cases (same_txn r.txn u) refl ]
+      ap (λ x. is_among u x) k.1 ∙ cases (same_txn r.txn u) refl
+]
 
 -- the state after the grants of a list of requests
 pub after_grants : (l : Lock) (ws : List Request) → apply_all l (grants_of ws) ≡ record { grants = granted_all l.grants ws; conversions = without_all ws l.conversions; requests = without_all ws l.requests; victims = l.victims }
@@ -230,6 +235,7 @@ among_without t u rs =
         (elim x as (λ y. same_txn r.txn t ≡ y → is_among t (cond (not y) (r ∷ without t xs) (without t xs)) ≡ false)
         [ true ↦ λ _. rest | false ↦ λ s. ap (λ z. z || is_among t (without t xs)) s ∙ rest ]) e in
         cases (same_txn r.txn t) refl
+
     others : same_txn t u ≡ false → (xs : List Request) → is_among u (without t xs) ≡ is_among u xs
     others other [] = refl
     others other (r ∷ xs) =

@@ -3,7 +3,6 @@ use Rattle.std.proofs.Common.{◌≡◌, Bool, true, false, refl, sym, ◌∙◌
 use Rattle.std.specs.Option.{unwrap_or, IsSome}
 use Rattle.std.specs.Result.{OnOk, IsOk}
 use Rattle.std.proofs.lemmas.Bool.{both_ways}
-use Rattle.std.specs.Map.{lookup}
 use Rattle.std.specs.HashMap.{HashMap, get, get_by, spare, Updates, WritesThrough}
 use Rattle.lock_modes.specs.declared.mode.Mode.{Mode}
 use Rattle.lock_modes.specs.declared.modes.Modes.{Modes}

@@ -1,5 +1,5 @@
 -- Equality of names as the map tests it.
-use Rattle.std.proofs.Common.{◌≡◌, ℕ, Bool, true, false, refl}
+use Rattle.std.proofs.Common.{◌≡◌, refl}
 use Rattle.std.specs.HashMap.{HashMap, get, get_by}
 use Rattle.lock_modes.specs.declared.name.LockName.{LockName}
 use Rattle.lock_modes.specs.declared.name.LockName.TheVariants.{Dictionary, Table, Row, First}

@@ -1,25 +1,25 @@
 -- The table of grants as the records of the open transactions tell it.
-use Rattle.std.proofs.Common.{◌≡◌, ℕ, Bool, true, false, refl, sym, ◌∙◌, ap, cond, List, [], ◌∷◌, ◌+◌, ◌-◌, ◌<◌, arith,  Option, Some, None, subst, ◌⊎◌, inl, inr}
-use Rattle.std.specs.Prelude.{◌&&◌, ◌||◌, not, if◌then◌else◌}
+use Rattle.std.proofs.Common.{◌≡◌, Bool, true, false, refl, sym, ◌∙◌, ap, cond, [], ◌∷◌, ◌+◌, ◌<◌, arith, Option, Some, None, subst, ◌⊎◌, inl, inr}
+use Rattle.std.specs.Prelude.{◌&&◌, ◌||◌, not}
 use Rattle.std.specs.List.{list_any, sum_by}
 use Rattle.std.specs.Option.{is_some}
 use Rattle.std.specs.Map.{lookup, set_value, remove_entry}
 use Rattle.std.specs.List.Sorted.{IsPermutation}
 use Rattle.std.proofs.lemmas.List.Recursion.{is_sum_by}
 use Rattle.std.proofs.lemmas.List.Sorted.{sum_by-IsPermutation}
-use Rattle.std.proofs.lemmas.Bool.{both_ways, or_left, or_right, and_parts, and_from}
+use Rattle.std.proofs.lemmas.Bool.{both_ways, and_parts, and_from}
 use Rattle.dby_types.specs.declared.number.TxnNo.{TxnNo}
 use Rattle.lock_modes.specs.declared.entry.Request.{Request}
 use Rattle.lock_modes.specs.declared.modes.Modes.{Modes}
 use Rattle.lock_modes.specs.declared.name.LockName.{LockName}
-use Rattle.lock_modes.specs.Lock.{Grants, granted, released, released_all}
-use Rattle.lock_modes.specs.Modes.{no_modes, hinders, with_mode, is_held}
+use Rattle.lock_modes.specs.Lock.{Grants, released, released_all}
+use Rattle.lock_modes.specs.Modes.{no_modes, hinders, is_held}
 use Rattle.lock_modes.specs.Names.{same_name, same_txn}
 use Rattle.lock_modes.proofs.ModesLemmas.{hinders_none, held_none}
 use Rattle.lock_modes.proofs.NamesLemmas.{txn_eq, txn_refl}
 use Rattle.lock_manager.specs.declared.owner.Owner.{Owner}
 use Rattle.lock_manager.specs.Holdings.{modes_in}
-use Rattle.lock_manager.specs.Owners.{Owners, owner_of, modes_of, grants_in, is_in_way, left_of, waits_of, victim_of, left_in, waits_in, victim_in, left_sum, Changes, IsSame}
+use Rattle.lock_manager.specs.Owners.{Owners, modes_of, grants_in, is_in_way, left_of, waits_of, victim_of, left_in, waits_in, left_sum, Changes, IsSame}
 
 and_no : (a : Bool) → (a && false) ≡ false
 and_no true = refl
@@ -35,9 +35,10 @@ none_in_way r [] none h = ap (λ b. not (same_txn h r.txn) && b) (hinders_none r
 none_in_way r (e ∷ es) none h =
     let parts = or_none (is_in_way r e) (list_any (is_in_way r) es) none in
     let cases = λ (b : Bool) (q : same_txn h e.0 ≡ b).
-    (elim b as (λ w. same_txn h e.0 ≡ w → (not (same_txn h r.txn) && hinders (modes_of (cond w (Some e.1) (lookup (same_txn h) es)) r.name) r.mode) ≡ false)
-    [ true ↦ λ t. subst (λ (u : TxnNo). (not (same_txn u r.txn) && hinders (modes_in e.1.holdings r.name) r.mode) ≡ false) (sym (txn_eq h e.0 t)) parts.0
-    | false ↦ λ _. none_in_way r es parts.1 h ]) q in
+    (elim b as (λ w. same_txn h e.0 ≡ w → (not (same_txn h r.txn) && hinders (modes_of (cond w (Some e.1) (lookup (same_txn h) es)) r.name) r.mode) ≡ false) [
+      | true ↦ λ t. subst (λ (u : TxnNo). (not (same_txn u r.txn) && hinders (modes_in e.1.holdings r.name) r.mode) ≡ false) (sym (txn_eq h e.0 t)) parts.0
+      | false ↦ λ _. none_in_way r es parts.1 h
+    ]) q in
     cases (same_txn h e.0) refl
 
 -- a record that is in the way is of one who is
@@ -89,11 +90,12 @@ pub sum_set : (t : TxnNo) (os : Owners) (o w : Owner) → lookup (same_txn t) os
 sum_set t [] o w h = absurd (cc h)
 sum_set t (e ∷ es) o w h =
     let cases = λ (b : Bool) (q : same_txn t e.0 ≡ b).
-    (elim b as (λ x. cond x (Some e.1) (lookup (same_txn t) es) ≡ Some o → left_sum (cond x ((e.0, w) ∷ es) (e ∷ set_value (same_txn t) es w)) + o.left ≡ (e.1.left + left_sum es) + w.left)
-    [ true ↦ λ s. let k : e.1 ≡ o = cc s in let l : e.1.left ≡ o.left = ap (λ (z : Owner). z.left) k in
-      let g : (w.left + left_sum es) + o.left ≡ (e.1.left + left_sum es) + w.left = omega (arith, l) in g
-    | false ↦ λ s. let k = sum_set t es o w s in
-      let g : (e.1.left + left_sum (set_value (same_txn t) es w)) + o.left ≡ (e.1.left + left_sum es) + w.left = omega (arith, k) in g ]) in
+    (elim b as (λ x. cond x (Some e.1) (lookup (same_txn t) es) ≡ Some o → left_sum (cond x ((e.0, w) ∷ es) (e ∷ set_value (same_txn t) es w)) + o.left ≡ (e.1.left + left_sum es) + w.left) [
+      | true ↦ λ s. let k : e.1 ≡ o = cc s in let l : e.1.left ≡ o.left = ap (λ (z : Owner). z.left) k in
+          let g : (w.left + left_sum es) + o.left ≡ (e.1.left + left_sum es) + w.left = omega (arith, l) in g
+      | false ↦ λ s. let k = sum_set t es o w s in
+          let g : (e.1.left + left_sum (set_value (same_txn t) es w)) + o.left ≡ (e.1.left + left_sum es) + w.left = omega (arith, k) in g
+    ]) in
     cases (same_txn t e.0) refl h
 
 -- the records of others stay
@@ -119,7 +121,7 @@ changes m n t o w g put set was grants =
       others_left = others left_of m n t w put;
       others_wait = others waits_of m n t w put;
       others_victims = others victim_of m n t w put;
-      total = ap (λ x. x + left_in m t) sum ∙ ap (λ x. left_sum (set_value (same_txn t) m w) + x) mine_before ∙ set_sum ∙ ap (λ x. left_sum m + x) (sym mine)
+      total = ap (λ x. x + left_in m t) sum ∙ ap (λ x. left_sum (set_value (same_txn t) m w) + x) mine_before ∙ set_sum ∙ ap (λ x. left_sum m + x) (sym mine);
     }
 
 -- what every transaction has stays where the changed record keeps what it has
@@ -136,8 +138,9 @@ same_grants m n t o w put was same u k =
 -- who has no record has nothing, and may ask for nothing
 pub no_owner : (m : Owners) (t : TxnNo) (n : LockName) → None ≡ lookup (same_txn t) m → (is_held (grants_in m t n) ≡ true) ⊎ (0 < left_in m t) → ⊥
 no_owner m t n none h = elim h [
-    inl held ↦ both_ways _ (ap (λ (o : Option Owner). is_held (modes_of o n)) (sym none) ∙ held_none) held
-  | inr some ↦ let z : left_in m t ≡ 0 = ap left_of (sym none) in omega (arith, z, some) ]
+  | inl held ↦ both_ways _ (ap (λ (o : Option Owner). is_held (modes_of o n)) (sym none) ∙ held_none) held
+  | inr some ↦ let z : left_in m t ≡ 0 = ap left_of (sym none) in omega (arith, z, some)
+]
 
 pub no_waiter : (m : Owners) (t : TxnNo) → None ≡ lookup (same_txn t) m → waits_in m t ≡ true → ⊥
 no_waiter m t none h = both_ways _ (ap waits_of (sym none)) h
@@ -159,9 +162,10 @@ sum_remove t [] = refl
 sum_remove t (e ∷ es) =
     let rest = sum_remove t es in
     let cases = λ (b : Bool) (q : same_txn t e.0 ≡ b).
-    (elim b as (λ x. left_sum (cond x es (e ∷ remove_entry (same_txn t) es)) + left_of (cond x (Some e.1) (lookup (same_txn t) es)) ≡ e.1.left + left_sum es)
-    [ true ↦ (let g : left_sum es + e.1.left ≡ e.1.left + left_sum es = omega arith in g)
-    | false ↦ (let g : (e.1.left + left_sum (remove_entry (same_txn t) es)) + left_in es t ≡ e.1.left + left_sum es = omega (arith, rest) in g) ]) in
+    (elim b as (λ x. left_sum (cond x es (e ∷ remove_entry (same_txn t) es)) + left_of (cond x (Some e.1) (lookup (same_txn t) es)) ≡ e.1.left + left_sum es) [
+      | true ↦ (let g : left_sum es + e.1.left ≡ e.1.left + left_sum es = omega arith in g)
+      | false ↦ (let g : (e.1.left + left_sum (remove_entry (same_txn t) es)) + left_in es t ≡ e.1.left + left_sum es = omega (arith, rest) in g)
+    ]) in
     cases (same_txn t e.0) refl
 
 sum_is : (os : Owners) → left_sum os ≡ sum_by (λ (e : TxnNo × Owner). e.1.left) os
@@ -192,7 +196,7 @@ opened m n t o nothing left waits victim none put all =
       lefts = fresh left_of m n t o left none put;
       waits = fresh waits_of m n t o waits none put;
       victims = fresh victim_of m n t o victim none put;
-      total = omega (arith, sum, left)
+      total = omega (arith, sum, left);
     }
 
 pub itself : (m : Owners) → IsSame m m

@@ -1,15 +1,13 @@
 -- Serving a line, request by request.
-use Rattle.std.proofs.Common.{◌≡◌, ℕ, ◌+◌, ◌<◌, ◌≤◌, Bool, true, false, refl, sym, ◌∙◌, ap, cond, List, [], ◌∷◌, ◌++◌, length, take, drop, get_or, subst, ◌⊎◌, inl, inr, arith, append_assoc, append-nil, length-append, add-one, Option, Some, None, suc, drop-cons}
+use Rattle.std.proofs.Common.{◌≡◌, ℕ, ◌+◌, ◌<◌, ◌≤◌, Bool, true, false, refl, sym, ◌∙◌, ap, List, [], ◌∷◌, ◌++◌, length, take, drop, get_or, subst, inl, inr, arith, append_assoc, append-nil, length-append, Option, Some, None, suc}
 use Rattle.std.specs.Prelude.{◌&&◌, ◌||◌, not}
 use Rattle.std.specs.List.{list_any, remove}
 use Rattle.std.specs.Option.{MatchOption, is_some}
-use Rattle.std.proofs.Math.Seq.{take-append_seam, drop-append_seam, get_or-append_seam}
-use Rattle.std.proofs.lemmas.List.Edits.{remove-append_right}
+use Rattle.std.proofs.Math.Seq.{take-append_seam, get_or-append_seam}
 use Rattle.std.proofs.lemmas.List.Folds.{list_any-append}
-use Rattle.std.proofs.lemmas.Bool.{both_ways, and_parts, and_from, or_left, or_right}
+use Rattle.std.proofs.lemmas.Bool.{both_ways, or_left, or_right}
 use Rattle.dby_types.specs.declared.number.TxnNo.{TxnNo}
 use Rattle.lock_modes.specs.declared.entry.Request.{Request}
-use Rattle.lock_modes.specs.declared.name.LockName.{LockName}
 use Rattle.lock_modes.specs.Names.{same_txn}
 use Rattle.lock_modes.specs.Lock.{Grants, granted}
 use Rattle.lock_modes.specs.Modes.{hinders}
@@ -72,10 +70,15 @@ no_wakes os = record { grants = λ u n. refl; lefts = λ u. refl; victims = λ u
 
 pub serving_starts : (os : Owners) (before line given : List Request) → Waiters os line → Serving os os before line line 0 given given
 serving_starts os before line given waiters = record {
-  left = []; rest = line; woken = []; place = refl; line_is = refl; noted = sym (append-nil given);
+  left = [];
+  rest = line;
+  woken = [];
+  place = refl;
+  line_is = refl;
+  noted = sym (append-nil given);
   order = λ w l s. subst (λ (b : List Request). Serves (grants_in os) b line w l) (append-nil before) s;
   wakes = no_wakes os;
-  waiters = waiters
+  waiters = waiters;
 }
 
 pub last_of : (g : Grants) (a b : List Request) (r : Request) (o : Option TxnNo)
@@ -153,17 +156,19 @@ serving_stays old new before line line' given given' i r s within read blocked =
     let one : List Request = r ∷ [] in
     let lists : s.left ++ s.rest ≡ (s.left ++ one) ++ p.0 = ap (λ x. s.left ++ x) p.1 ∙ sym (append_assoc s.left one p.0) in
     record {
-      left = s.left ++ one; rest = p.0; woken = s.woken;
+      left = s.left ++ one;
+      rest = p.0;
+      woken = s.woken;
       place = omega (arith, s.place, length-append s.left one);
       line_is = s.line_is ∙ lists;
       noted = s.noted;
       order = λ w l more.
-        let inner : Serves (grants_in new) ((before ++ s.left) ++ one) p.0 w l = subst (λ (b : List Request). Serves (grants_in new) b p.0 w l) (sym (append_assoc before s.left one)) more in
-        let step : Serves (grants_in new) (before ++ s.left) (r ∷ p.0) w (r ∷ l) = inr (l, refl, here, inner) in
-        let whole = s.order w (r ∷ l) (subst (λ (x : List Request). Serves (grants_in new) (before ++ s.left) x w (r ∷ l)) (sym p.1) step) in
-        subst (λ (x : List Request). Serves (grants_in old) before line (s.woken ++ w) x) (sym (append_assoc s.left one l)) whole;
+          let inner : Serves (grants_in new) ((before ++ s.left) ++ one) p.0 w l = subst (λ (b : List Request). Serves (grants_in new) b p.0 w l) (sym (append_assoc before s.left one)) more in
+          let step : Serves (grants_in new) (before ++ s.left) (r ∷ p.0) w (r ∷ l) = inr (l, refl, here, inner) in
+          let whole = s.order w (r ∷ l) (subst (λ (x : List Request). Serves (grants_in new) (before ++ s.left) x w (r ∷ l)) (sym p.1) step) in
+          subst (λ (x : List Request). Serves (grants_in old) before line (s.woken ++ w) x) (sym (append_assoc s.left one l)) whole;
       wakes = s.wakes;
-      waiters = subst (λ (x : List Request). Waiters new x) lists s.waiters
+      waiters = subst (λ (x : List Request). Waiters new x) lists s.waiters;
     }
 
 -- what stands behind a place
@@ -186,34 +191,38 @@ serving_wakes old new new' before line line' given given' i r s within read free
     let grants : granted (grants_in new) r ≡ grants_in new' = sym (λ j u n. changed.grants_are u n j) in
     let before_all : grants_in new ≡ granted_all (grants_in old) s.woken = λ j u n. s.wakes.grants u n j in
     let removed : remove line' i ≡ s.left ++ p.0 =
-      ap (λ l. remove l i) (s.line_is ∙ ap (λ x. s.left ++ x) p.1) ∙ ap (λ k. remove (s.left ++ r ∷ p.0) k) s.place ∙ gone s.left p.0 r in
+    ap (λ l. remove l i) (s.line_is ∙ ap (λ x. s.left ++ x) p.1) ∙ ap (λ k. remove (s.left ++ r ∷ p.0) k) s.place ∙ gone s.left p.0 r in
     record {
-      left = s.left; rest = p.0; woken = s.woken ++ one;
+      left = s.left;
+      rest = p.0;
+      woken = s.woken ++ one;
       place = s.place;
       line_is = removed;
       noted = ap (λ x. x ++ one) s.noted ∙ append_assoc given s.woken one;
       order = λ w l more.
-        let inner : Serves (granted (grants_in new) r) (before ++ s.left) p.0 w l = subst (λ (g : Grants). Serves g (before ++ s.left) p.0 w l) (sym grants) more in
-        let step : Serves (grants_in new) (before ++ s.left) (r ∷ p.0) (r ∷ w) l = inl (w, refl, here, inner) in
-        let whole = s.order (r ∷ w) l (subst (λ (x : List Request). Serves (grants_in new) (before ++ s.left) x (r ∷ w) l) (sym p.1) step) in
-        subst (λ (x : List Request). Serves (grants_in old) before line x (s.left ++ l)) (sym (append_assoc s.woken one w)) whole;
+          let inner : Serves (granted (grants_in new) r) (before ++ s.left) p.0 w l = subst (λ (g : Grants). Serves g (before ++ s.left) p.0 w l) (sym grants) more in
+          let step : Serves (grants_in new) (before ++ s.left) (r ∷ p.0) (r ∷ w) l = inl (w, refl, here, inner) in
+          let whole = s.order (r ∷ w) l (subst (λ (x : List Request). Serves (grants_in new) (before ++ s.left) x (r ∷ w) l) (sym p.1) step) in
+          subst (λ (x : List Request). Serves (grants_in old) before line x (s.left ++ l)) (sym (append_assoc s.woken one w)) whole;
       wakes = record {
         grants = λ u n. changed.grants_are u n ∙ ap (λ (g : Grants). granted g r u n) before_all ∙ ap (λ (g : Grants). g u n) (sym (granted_snoc (grants_in old) s.woken r));
         lefts = λ u. everywhere (left_in new') (left_in new) r.txn left changed.others_left u ∙ s.wakes.lefts u;
         victims = λ u. everywhere (victim_in new') (victim_in new) r.txn victim changed.others_victims u ∙ s.wakes.victims u;
         waits = everywhere (waits_in new') (λ u. waits_in old u && not (is_among u (s.woken ++ one))) r.txn
-          (waits ∙ sym (ap (λ b. waits_in old r.txn && not b) (among_snoc r.txn s.woken r ∙ or_right (is_among r.txn s.woken) _ (txn_refl r.txn)) ∙ and_no (waits_in old r.txn)))
-          (λ u other. changed.others_wait u other ∙ s.wakes.waits u ∙ ap (λ b. waits_in old u && not b) (sym (among_snoc u s.woken r ∙ ap (λ b. is_among u s.woken || b) other ∙ or_no (is_among u s.woken))));
-        total = (let t = changed.total in let a : left_sum new' ≡ left_sum new = omega (arith, t, left) in a) ∙ s.wakes.total
+            (waits ∙ sym (ap (λ b. waits_in old r.txn && not b) (among_snoc r.txn s.woken r ∙ or_right (is_among r.txn s.woken) _ (txn_refl r.txn)) ∙ and_no (waits_in old r.txn)))
+            (λ u other. changed.others_wait u other ∙ s.wakes.waits u ∙ ap (λ b. waits_in old u && not b) (sym (among_snoc u s.woken r ∙ ap (λ b. is_among u s.woken || b) other ∙ or_no (is_among u s.woken))));
+        total = (let t = changed.total in let a : left_sum new' ≡ left_sum new = omega (arith, t, left) in a) ∙ s.wakes.total;
       };
-      waiters = waiters_drop new new' r changed.others_wait s.left p.0 (subst (λ (x : List Request). Waiters new (s.left ++ x)) p.1 s.waiters)
+      waiters = waiters_drop new new' r changed.others_wait s.left p.0 (subst (λ (x : List Request). Waiters new (s.left ++ x)) p.1 s.waiters);
     }
   where
     gone : (a b : List Request) (x : Request) → remove (a ++ x ∷ b) (length a) ≡ a ++ b
     gone a b x = ap (λ l. l ++ drop (suc (length a)) (a ++ x ∷ b)) (take-append_seam a (x ∷ b)) ∙ ap (λ l. a ++ l) (behind a b x)
+
     and_no : (a : Bool) → (a && false) ≡ false
     and_no true = refl
     and_no false = refl
+
     or_no : (a : Bool) → (a || false) ≡ a
     or_no true = refl
     or_no false = refl
@@ -231,9 +240,9 @@ serving_ends old new before line line' given given' i s end =
       woken = s.woken;
       noted = s.noted;
       order = subst (λ (x : List Request). Serves (grants_in old) before line s.woken x) (append-nil s.left ∙ sym all)
-        (subst (λ (x : List Request). Serves (grants_in old) before line x (s.left ++ [])) woken whole);
+          (subst (λ (x : List Request). Serves (grants_in old) before line x (s.left ++ [])) woken whole);
       wakes = s.wakes;
-      waiters = subst (λ (x : List Request). Waiters new x) (sym s.line_is) s.waiters
+      waiters = subst (λ (x : List Request). Waiters new x) (sym s.line_is) s.waiters;
     }
   where
     empty : (xs : List Request) → length xs ≡ 0 → xs ≡ []

@@ -1,23 +1,22 @@
 -- What a call keeps of a lock table.
-use Rattle.std.proofs.Common.{◌≡◌, ℕ, ◌+◌, ◌-◌, ◌<◌, ◌≤◌, Bool, true, false, refl, sym, ◌∙◌, ap, cond, List, [], ◌∷◌, ◌++◌, subst, ◌⊎◌, inl, inr, arith, Option, Some, None, append_assoc, append-nil}
+use Rattle.std.proofs.Common.{◌≡◌, ℕ, ◌+◌, ◌-◌, ◌<◌, ◌≤◌, Bool, true, false, refl, sym, ◌∙◌, ap, cond, List, [], ◌∷◌, ◌++◌, subst, ◌⊎◌, inl, inr, arith, Some, None, append_assoc, append-nil}
 use Rattle.std.specs.Prelude.{◌&&◌, ◌||◌, not, if◌then◌else◌, IsTrue, ◌↔◌}
 use Rattle.std.specs.List.{list_any, find}
 use Rattle.std.specs.Map.{lookup}
 use Rattle.std.proofs.lemmas.List.Folds.{list_any-append}
-use Rattle.std.proofs.lemmas.Bool.{both_ways, and_parts}
+use Rattle.std.proofs.lemmas.Bool.{both_ways}
 use Rattle.dby_types.specs.declared.number.TxnNo.{TxnNo}
 use Rattle.lock_modes.specs.declared.entry.Request.{Request}
 use Rattle.lock_modes.specs.declared.name.LockName.{LockName}
-use Rattle.lock_modes.specs.Names.{same_txn, same_name}
-use Rattle.lock_modes.specs.Lock.{Lock, Grants, granted, queue, without_request, has_grant, queued}
+use Rattle.lock_modes.specs.Names.{same_txn}
+use Rattle.lock_modes.specs.Lock.{Lock, Grants, queue, queued}
 use Rattle.lock_modes.specs.Modes.{is_held}
 use Rattle.lock_modes.specs.Waits.{IsBlocked, AllBlocked, waiting}
 use Rattle.lock_modes.specs.Proper.{IsRefused}
-use Rattle.lock_modes.proofs.NamesLemmas.{txn_eq, txn_refl, txn_equiv}
-use Rattle.lock_manager.specs.Owners.{Owners, owner_of, grants_in, left_in, left_of, victim_in, waits_in, left_sum, Changes}
+use Rattle.lock_modes.proofs.NamesLemmas.{txn_refl, txn_equiv}
+use Rattle.lock_manager.specs.Owners.{Owners, grants_in, left_in, left_of, victim_in, waits_in, left_sum, Changes}
 use Rattle.lock_manager.specs.Serve.{is_among, Waiters}
 use Rattle.lock_manager.proofs.ServeLemmas.{everywhere, waiters_keep}
-use Rattle.lock_manager.proofs.BlockedLemmas.{all_blocked_more, without_none}
 
 or_none : (a b : Bool) → (a || b) ≡ false → (a ≡ false) × (b ≡ false)
 or_none true b h = absurd (both_ways true h refl)
@@ -170,3 +169,22 @@ queued_held l r b e h = ap (λ x. cond x (record l { conversions = l.conversions
 
 pub queued_none : (l : Lock) (r : Request) (b : Bool) → b ≡ is_held (l.grants r.txn r.name) → b ≡ false → record l { requests = l.requests ++ r ∷ [] } ≡ queued l r
 queued_none l r b e h = ap (λ x. cond x (record l { conversions = l.conversions ++ r ∷ [] }) (record l { requests = l.requests ++ r ∷ [] })) (sym h ∙ e)
+
+-- grants and waiting as before, in lists as before
+pub kept_waiters : (os os' : Owners) (cs rs cs' rs' : List Request) → ((u : TxnNo) → waits_in os' u ≡ waits_in os u) → cs' ≡ cs → rs' ≡ rs → Waiters os (cs ++ rs) → Waiters os' (cs' ++ rs')
+kept_waiters os os' cs rs cs' rs' same c r w = subst (λ (x : List Request). Waiters os' x) (sym (λ i. c i ++ r i)) (waiters_same os os' same (cs ++ rs) w)
+
+pub kept_only : (os os' : Owners) (cs rs cs' rs' : List Request) → ((u : TxnNo) → waits_in os' u ≡ waits_in os u) → cs' ≡ cs → rs' ≡ rs → ((u : TxnNo) → waits_in os u ≡ is_among u (cs ++ rs)) → (u : TxnNo) → waits_in os' u ≡ is_among u (cs' ++ rs')
+kept_only os os' cs rs cs' rs' same c r only u = same u ∙ only u ∙ sym (λ i. is_among u (c i ++ r i))
+
+pub kept_settled : (os os' : Owners) (cs rs cs' rs' : List Request) → ((u : TxnNo) (n : LockName) → grants_in os' u n ≡ grants_in os u n) → cs' ≡ cs → rs' ≡ rs → AllBlocked (grants_in os) [] (cs ++ rs) → AllBlocked (grants_in os') [] (cs' ++ rs')
+kept_settled os os' cs rs cs' rs' same c r k = subst (λ (x : List Request). AllBlocked (grants_in os') [] x) (sym (λ i. c i ++ r i)) (settled_as os' (grants_in os) [] (cs ++ rs) same k)
+
+-- the sum after one transaction may ask for more
+pub more_total : (os os' : Owners) (t : TxnNo) (g : Grants) (left n : ℕ) → Changes os os' t g → left_in os' t ≡ n → left_in os t ≤ n → left ≡ left_sum os → left + (n - left_in os t) ≡ left_sum os'
+more_total os os' t g left n c mine less was = let s = c.total in omega (arith, s, mine, less, was)
+
+pub more_left : (os os' : Owners) (t : TxnNo) (g : Grants) (n : ℕ) → Changes os os' t g → left_in os' t ≡ n → (u : TxnNo) → left_in os' u ≡ (if same_txn t u then n else left_in os u)
+more_left os os' t g n c mine = everywhere (left_in os') (λ u. if same_txn t u then n else left_in os u) t
+    (mine ∙ ap (λ b. if b then n else left_in os t) (sym (txn_refl t)))
+    (λ u other. c.others_left u other ∙ ap (λ b. if b then n else left_in os u) (sym other))

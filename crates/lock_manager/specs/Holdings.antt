@@ -1,6 +1,6 @@
 -- What one transaction has: its modes by name.
-use Rattle.std.specs.Prelude.{◌≡◌, ◌⊎◌, ◌<◌, ℕ, Bool, true, Option}
-use Rattle.std.specs.HashMap.{HashMap, get, spare}
+use Rattle.std.specs.Prelude.{◌≡◌, ◌⊎◌, ◌<◌, true}
+use Rattle.std.specs.HashMap.{get, spare}
 use Rattle.std.specs.Option.{unwrap_or}
 use Rattle.lock_modes.specs.declared.modes.Modes.{Modes}
 use Rattle.lock_modes.specs.declared.name.LockName.{LockName}

@@ -1,12 +1,11 @@
 -- The open transactions, as one table of grants.
-use Rattle.std.specs.Prelude.{◌≡◌, true, ◌+◌, ◌≤◌, ℕ, Bool, false, List, [], ◌∷◌, Option, Some, None, if◌then◌else◌, ◌&&◌, not}
-use Rattle.std.specs.HashMap.{spare}
+use Rattle.std.specs.Prelude.{◌≡◌, ◌+◌, ℕ, Bool, false, List, [], ◌∷◌, Option, Some, None, if◌then◌else◌, ◌&&◌, not}
 use Rattle.std.specs.Map.{lookup}
 use Rattle.dby_types.specs.declared.number.TxnNo.{TxnNo}
 use Rattle.lock_modes.specs.declared.modes.Modes.{Modes}
 use Rattle.lock_modes.specs.declared.name.LockName.{LockName}
 use Rattle.lock_modes.specs.declared.entry.Request.{Request}
-use Rattle.lock_modes.specs.Lock.{Grants, granted, released}
+use Rattle.lock_modes.specs.Lock.{Grants}
 use Rattle.lock_modes.specs.Modes.{no_modes, hinders}
 use Rattle.lock_modes.specs.Names.{same_txn}
 use Rattle.lock_manager.specs.declared.owner.Owner.{Owner}

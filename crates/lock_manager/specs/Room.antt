@@ -7,11 +7,10 @@ use Rattle.lock_modes.specs.Lock.{Grants}
 use Rattle.std.specs.Vec.{vec_len, vec_capacity}
 use Rattle.std.specs.declared.collections.VecDeque.{VecDeque}
 use Rattle.std.specs.VecDeque.{deque_len, deque_capacity}
-use Rattle.dby_types.specs.declared.number.TxnNo.{TxnNo}
 use Rattle.lock_modes.specs.declared.entry.Request.{Request}
 use Rattle.lock_modes.specs.Waits.{AllBlocked}
-use Rattle.lock_manager.specs.Owners.{Owners, grants_in, waits_in, left_sum}
-use Rattle.lock_manager.specs.Serve.{Waiters, is_among}
+use Rattle.lock_manager.specs.Owners.{Owners}
+use Rattle.lock_manager.specs.Serve.{Waiters}
 
 -- there is room for every name for which some transaction may ask
 pub record HasRoom {Z : Type 0} (left : ℕ) (conversions requests : Vec Request Z) (woken : VecDeque Request Z) : Type 0 where

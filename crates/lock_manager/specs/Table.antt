@@ -1,19 +1,18 @@
 -- A lock table as its callers see it.
-use Rattle.std.specs.Prelude.{◌≡◌, ◌⊎◌, ◌<◌, ◌≤◌, ◌+◌, ◌-◌, ◌&&◌, not, ℕ, Bool, true, false, List, [], ◌∷◌, ◌++◌, if◌then◌else◌, Option, Some, None, length}
+use Rattle.std.specs.Prelude.{◌≡◌, ◌⊎◌, ◌<◌, ◌-◌, ◌&&◌, not, ℕ, Bool, true, false, List, [], ◌++◌, if◌then◌else◌, Option, Some, None}
 use Rattle.dby_types.specs.declared.number.TxnNo.{TxnNo}
 use Rattle.lock_modes.specs.declared.entry.Request.{Request}
 use Rattle.lock_modes.specs.declared.event.LockEvent.{LockEvent}
-use Rattle.lock_modes.specs.Lock.{Lock, queue, has_grant, apply_all}
+use Rattle.lock_modes.specs.Lock.{Lock, queue, apply_all}
 use Rattle.lock_modes.specs.Modes.{is_covered}
 use Rattle.lock_modes.specs.Names.{same_txn}
-use Rattle.lock_modes.specs.Proper.{IsCovered, IsRefused, MayHave}
+use Rattle.lock_modes.specs.Proper.{IsRefused, MayHave}
 use Rattle.lock_modes.specs.Serving.{Serves, grants_of}
-use Rattle.lock_modes.specs.Waits.{IsSettled, waiting, earlier, blocks}
+use Rattle.lock_modes.specs.Waits.{earlier, blocks}
 use Rattle.lock_manager.specs.declared.table.LockTable.{LockTable}
 use Rattle.lock_manager.specs.declared.tried.Tried.{Tried}
 use Rattle.lock_manager.specs.declared.tried.Tried.TheVariants.{Granted, Conflict}
-use Rattle.lock_manager.specs.Owners.{Owners, grants_in, left_in, victim_in, waits_in, left_sum}
-use Rattle.lock_manager.specs.Serve.{Waiters, is_among}
+use Rattle.lock_manager.specs.Owners.{grants_in, left_in, victim_in}
 
 -- the grants, the queue and the victims: the state that lock events change
 abbrev pub lock : LockTable → Lock

@@ -9,8 +9,8 @@ ghost use Rattle.lock_modes.specs.declared.name.LockName.{LockName};
 use lock_modes::mode::Mode;
 use lock_modes::modes::Modes;
 use lock_modes::name::LockName;
-use std::collections::HashMap;
 use std::alloc::{AllocError, Global};
+use std::collections::HashMap;
 
 /// The modes of one transaction, by name.
 #[derive(Drop)]

@@ -1,6 +1,6 @@
 //! The lock table: who has which locks, and who waits.
 
-ghost use Rattle.std.specs.Prelude.{◌≡◌, ◌⊎◌, ◌≤◌, ◌<◌, ◌+◌, ◌-◌, ◌&&◌, ◌||◌, ℕ, true, false, not, [], ◌∷◌, ◌++◌, Some, None, OnOk, OnErr, if◌then◌else◌, MatchOption, IsTrue, ◌↔◌, max};
+ghost use Rattle.std.specs.Prelude.{◌≡◌, ◌⊎◌, ◌≤◌, ◌<◌, ◌+◌, ◌-◌, ◌&&◌, ◌||◌, ℕ, true, false, not, [], ◌∷◌, ◌++◌, Some, None, OnOk, OnErr, if◌then◌else◌, MatchOption, IsTrue, ◌↔◌, is_ok};
 ghost use Rattle.dby_types.specs.declared.number.TxnNo.{TxnNo};
 ghost use Rattle.lock_modes.specs.Names.{same_txn};
 ghost use Rattle.lock_modes.specs.Lock.{no_locks, apply, request, has_grant, queue};
@@ -12,18 +12,19 @@ ghost use Rattle.lock_manager.specs.Owners.{left_sum, waits_in, grants_in};
 ghost use Rattle.lock_manager.specs.Serve.{Waiters, is_among};
 
 use crate::owners::{self, Owners};
+use crate::queue::{drop_requests, in_way, make_room, serve_both, waits};
 use crate::tried::Tried;
-use crate::queue::{drop_requests, in_way, serve_both, waits};
 use dby_types::number::TxnNo;
 use lock_modes::entry::Request;
 use lock_modes::mode::Mode;
 use lock_modes::name::LockName;
-use std::alloc::Global;
+use std::alloc::{AllocError, Global};
 use std::collections::{HashMap, VecDeque};
 
 /// Who has which locks, and who waits.
 #[derive(Drop)]
 pub struct LockTable {
+    alloc: Global,
     owners: Owners,
     /// For how many names more all transactions may ask.
     left: usize,
@@ -47,6 +48,7 @@ impl LockTable {
         ensures woken { woken_of result ≡ [] }
     {
         LockTable {
+            alloc,
             owners: HashMap::new(alloc),
             left: 0,
             conversions: Vec::new(alloc),
@@ -102,6 +104,48 @@ impl LockTable {
             in_way(&self.owners, &self.conversions, &[], r)
         } else {
             in_way(&self.owners, &self.conversions, &self.requests, r)
+        }
+    }
+
+    /// Lets a transaction ask for at least n names more. Nothing else takes memory: what its requests need, and the grants of
+    /// those that are queued, is taken here.
+    pub fn reserve(&mut self, t: TxnNo, n: u32) -> Result<(), AllocError>
+        ensures ok { OnOk result (n ≤ spare_of self.new t) }
+        ensures keeps { (u : TxnNo) → spare_of self.old u ≤ spare_of self.new u }
+        ensures err { OnErr result ((u : TxnNo) → spare_of self.new u ≡ spare_of self.old u) }
+        ensures same { lock self.new ≡ lock self.old }
+        ensures woken { woken_of self.new ≡ woken_of self.old }
+    {
+        let had = owners::left(&self.owners, t);
+        if n <= had {
+            return Ok(());
+        }
+        let Some(left) = self.left.checked_add((n - had) as usize) else {
+            return Err(AllocError);
+        };
+        self.widen(t, n, left)
+    }
+
+    fn widen(&mut self, t: TxnNo, n: u32, left: usize) -> Result<(), AllocError>
+        requires more { spare_of self.old t ≤ n }
+        requires sum { left ≡ self.old.left + (n - spare_of self.old t) }
+        ensures ok { (u : TxnNo) → spare_of self.new u ≡ (if is_ok result && same_txn t u then n else spare_of self.old u) }
+        ensures same { lock self.new ≡ lock self.old }
+        ensures woken { woken_of self.new ≡ woken_of self.old }
+    {
+        make_room(
+            &mut self.conversions,
+            &mut self.requests,
+            &mut self.woken,
+            left,
+        )?;
+        owners::open(&mut self.owners, self.alloc, t)?;
+        match owners::reserve(&mut self.owners, t, n) {
+            Ok(()) => {
+                self.left = left;
+                Ok(())
+            }
+            Err(e) => Err(e),
         }
     }
 

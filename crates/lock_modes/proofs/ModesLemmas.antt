@@ -1,13 +1,13 @@
 -- Sets of modes with one mode more.
-use Rattle.std.proofs.Common.{◌≡◌, ℕ, Bool, true, false, refl, List, [], ◌∷◌, lit<, inl, inr}
-use Rattle.std.specs.Prelude.{◌&&◌, ◌||◌, not}
+use Rattle.std.proofs.Common.{◌≡◌, Bool, true, false, refl, List, [], ◌∷◌, lit<, inl, inr}
+use Rattle.std.specs.Prelude.{◌&&◌, not}
 use Rattle.std.specs.List.{list_any}
 use Rattle.std.proofs.lemmas.List.Folds.{list_any_at}
 use Rattle.std.proofs.lemmas.Bool.{or_cases, or_left, or_right, and_parts, and_from, both_ways}
 use Rattle.lock_modes.specs.declared.mode.Mode.{Mode}
 use Rattle.lock_modes.specs.declared.mode.Mode.TheVariants.{S2, S3, U2, U3, Ip, X2, X3, TIs, TIx, TS, TX}
 use Rattle.lock_modes.specs.declared.modes.Modes.{Modes}
-use Rattle.lock_modes.specs.Modes.{all_modes, has_mode, with_mode, no_modes, is_held, hinders, is_covered, compatible, covers}
+use Rattle.lock_modes.specs.Modes.{all_modes, has_mode, with_mode, no_modes, is_held, hinders, is_covered, compatible}
 
 -- a mode stays when another is added
 pub has_more : (ms : Modes) (k a : Mode) → has_mode ms a ≡ true → has_mode (with_mode ms k) a ≡ true

@@ -1,5 +1,5 @@
 -- Names and transactions that are the same are equal.
-use Rattle.std.proofs.Common.{◌≡◌, ℕ, Bool, true, false, refl, ap, ◌∙◌}
+use Rattle.std.proofs.Common.{◌≡◌, true, refl, ap, ◌∙◌}
 use Rattle.std.proofs.lemmas.Bool.{both_ways, and_parts, and_from, eqb-true, eq-eqb}
 use Rattle.std.specs.Cmp.{IsEquivalence, nat_eq_equiv}
 use Rattle.dby_types.specs.declared.number.TxnNo.{TxnNo}
@@ -46,7 +46,7 @@ name_eq (First b j) (First a i) h = let p = and_parts _ _ h in ap (λ x. First x
 
 pub txn_equiv : IsEquivalence same_txn
 txn_equiv = record {
-    refl = txn_refl;
-    symm = λ x y. nat_eq_equiv.symm x.0 y.0;
-    congr = λ x y z h. nat_eq_equiv.congr x.0 y.0 z.0 h
+  refl = txn_refl;
+  symm = λ x y. nat_eq_equiv.symm x.0 y.0;
+  congr = λ x y z h. nat_eq_equiv.congr x.0 y.0 z.0 h;
 }

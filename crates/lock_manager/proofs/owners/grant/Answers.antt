@@ -1,10 +1,7 @@
 use Rattle.std.specs.Option.{is_some}
-use Rattle.std.proofs.Common.{sym, ap, refl, subst, ◌≡◌}
-use Rattle.std.specs.HashMap.{HashMap}
-use Rattle.lock_modes.specs.Lock.{granted, released}
-use Rattle.lock_modes.specs.Modes.{with_mode, no_modes}
-use Rattle.lock_manager.specs.Owners.{grants_in, Changes}
-use Rattle.lock_manager.proofs.OwnersLemmas.{changes, put_name, same_grants, no_owner, no_waiter, none_released, unchanged}
+use Rattle.std.proofs.Common.{sym, ap}
+use Rattle.lock_modes.specs.Modes.{with_mode}
+use Rattle.lock_manager.proofs.OwnersLemmas.{changes, put_name, no_owner}
 use Rattle.lock_manager.proofs.owners.grant.Goals as goal
 
 pub returns-in-Some-clause-changes : goal.returns-in-Some-clause-changes

@@ -1,7 +1,6 @@
 use Rattle.std.proofs.Common.{◌≡◌, None, Option, sym, ◌∙◌, subst}
 use Rattle.std.specs.HashMap.{PutsEntry}
 use Rattle.dby_types.specs.contracts.number.TxnNoPartialEq.TheImpl.{eq-value}
-use Rattle.lock_modes.specs.Names.{same_txn}
 use Rattle.lock_manager.specs.declared.owner.Owner.{Owner}
 use Rattle.lock_manager.specs.Owners.{owner_of}
 use Rattle.lock_manager.proofs.OwnersLemmas.{opened, nobody}

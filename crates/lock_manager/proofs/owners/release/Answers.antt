@@ -1,10 +1,9 @@
 use Rattle.std.specs.Option.{is_some}
-use Rattle.std.proofs.Common.{sym, ap, refl, subst, ◌≡◌}
-use Rattle.std.specs.HashMap.{HashMap}
-use Rattle.lock_modes.specs.Lock.{granted, released}
-use Rattle.lock_modes.specs.Modes.{with_mode, no_modes}
+use Rattle.std.proofs.Common.{sym, ap, subst}
+use Rattle.lock_modes.specs.Lock.{released}
+use Rattle.lock_modes.specs.Modes.{no_modes}
 use Rattle.lock_manager.specs.Owners.{grants_in, Changes}
-use Rattle.lock_manager.proofs.OwnersLemmas.{changes, put_name, same_grants, no_owner, no_waiter, none_released, unchanged}
+use Rattle.lock_manager.proofs.OwnersLemmas.{changes, put_name, none_released, unchanged}
 use Rattle.lock_manager.proofs.owners.release.Goals as goal
 
 pub returns-in-Some-clause-changes : goal.returns-in-Some-clause-changes

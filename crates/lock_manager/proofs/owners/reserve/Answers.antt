@@ -1,7 +1,6 @@
 use Rattle.std.specs.Option.{is_some}
-use Rattle.std.proofs.Common.{sym, ap, ◌∙◌}
+use Rattle.std.proofs.Common.{sym, ap}
 use Rattle.std.proofs.lemmas.Bool.{both_ways}
-use Rattle.lock_manager.specs.Owners.{grants_in}
 use Rattle.lock_manager.proofs.OwnersLemmas.{changes, same_modes}
 use Rattle.lock_manager.proofs.owners.reserve.Goals as goal
 

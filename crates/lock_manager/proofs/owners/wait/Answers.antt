@@ -1,12 +1,8 @@
 use Rattle.std.proofs.Common.{inr}
 use Rattle.lock_modes.specs.declared.name.LockName.TheVariants.{Dictionary}
 use Rattle.std.specs.Option.{is_some}
-use Rattle.std.proofs.Common.{sym, ap, refl, subst, ◌≡◌}
-use Rattle.std.specs.HashMap.{HashMap}
-use Rattle.lock_modes.specs.Lock.{granted, released}
-use Rattle.lock_modes.specs.Modes.{with_mode, no_modes}
-use Rattle.lock_manager.specs.Owners.{grants_in, Changes}
-use Rattle.lock_manager.proofs.OwnersLemmas.{changes, put_name, same_grants, no_owner, no_waiter, none_released, unchanged}
+use Rattle.std.proofs.Common.{sym, ap}
+use Rattle.lock_manager.proofs.OwnersLemmas.{changes, same_grants, no_owner}
 use Rattle.lock_manager.proofs.owners.wait.Goals as goal
 
 pub returns-in-Some-clause-changes : goal.returns-in-Some-clause-changes

@@ -11,7 +11,7 @@ invariant-each l = record {
   room : deque_capacity l.woken ≡ deque_capacity l.initial.woken;
   held : vec_capacity l.line ≡ vec_capacity l.initial.line;
   within : l.i ≤ vec_len l.line;
-  shorter : vec_len l.line ≤ vec_len l.initial.line
+  shorter : vec_len l.line ≤ vec_len l.initial.line;
 }
 
 abbrev pub decreases-each : goal.decreases-each

@@ -13,5 +13,5 @@ invariant_of-self c =
       room = s.room;
       waiters = waiters_same s.owners.entries c.choose.new.owners.entries waits q s.waiters;
       only = λ u. waits u ∙ s.only u;
-      settled = settled_as c.choose.new.owners.entries (grants_in s.owners.entries) _ q c.choose.ensures.changes.grants_are s.settled
+      settled = settled_as c.choose.new.owners.entries (grants_in s.owners.entries) _ q c.choose.ensures.changes.grants_are s.settled;
     }

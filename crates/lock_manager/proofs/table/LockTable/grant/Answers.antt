@@ -24,7 +24,7 @@ invariant_of-self c =
       room = record { conversions_fit = omega (arith, s.room.conversions_fit, less); requests_fit = omega (arith, s.room.requests_fit, less); woken_fit = omega (arith, s.room.woken_fit, less) };
       waiters = waiters_same s.owners.entries c.grant.new.owners.entries waits q s.waiters;
       only = λ u. waits u ∙ s.only u;
-      settled = settled_as c.grant.new.owners.entries after _ q c.grant.ensures.changes.grants_are (all_blocked_more (grants_in s.owners.entries) c.args.r _ q s.settled)
+      settled = settled_as c.grant.new.owners.entries after _ q c.grant.ensures.changes.grants_are (all_blocked_more (grants_in s.owners.entries) c.args.r _ q s.settled);
     }
 
 pub returns-clause-ok : goal.returns-clause-ok

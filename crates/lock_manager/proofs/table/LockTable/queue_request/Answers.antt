@@ -1,12 +1,11 @@
-use Rattle.std.proofs.Common.{◌≡◌, ◌<◌, ◌-◌, ◌++◌, ◌∷◌, [], ◌∙◌, ap, sym, subst, arith, List, true, false, refl, append-nil}
-use Rattle.std.specs.Vec.{vec_len, vec_capacity}
+use Rattle.std.proofs.Common.{◌≡◌, ◌<◌, ◌++◌, [], ◌∙◌, ap, sym, subst, arith, List, refl, append-nil}
 use Rattle.dby_types.specs.declared.number.TxnNo.{TxnNo}
 use Rattle.lock_modes.specs.declared.entry.Request.{Request}
 use Rattle.lock_modes.specs.Waits.{AllBlocked}
 use Rattle.lock_manager.specs.Owners.{grants_in, waits_in}
 use Rattle.lock_manager.specs.Serve.{Waiters, is_among}
 use Rattle.lock_manager.specs.Table.{lock}
-use Rattle.lock_manager.proofs.BlockedLemmas.{queued_conversion, queued_request}
+use Rattle.lock_manager.proofs.BlockedLemmas.{queued_request}
 use Rattle.lock_manager.proofs.TableLemmas.{keep_victims, settled_as, lock_path, grants_path, not_among, waiters_insert, only_insert, behind_all, set_aside, less_left}
 use Rattle.lock_manager.proofs.table.LockTable.queue_request.Goals as goal
 
@@ -27,7 +26,7 @@ invariant_of-self c =
       room = record { conversions_fit = omega (arith, s.room.conversions_fit, positive, c.push_reserved.ensures.len, c.push_reserved.ensures.capacity); requests_fit = omega (arith, s.room.requests_fit, positive, c.push_reserved.ensures.len, c.push_reserved.ensures.capacity); woken_fit = omega (arith, s.room.woken_fit, positive, c.push_reserved.ensures.len) };
       waiters = subst (λ (x : List Request). Waiters os' (s.conversions.items ++ x)) (sym items) (subst (λ (x : List Request). Waiters os' x) lists (waiters_insert os os' c.args.r c.wait.ensures.changes.others_wait c.wait.ensures.same (s.conversions.items ++ s.requests.items) [] (subst (λ (x : List Request). Waiters os x) (sym whole) s.waiters) (ap (λ x. is_among c.args.r.txn x) whole ∙ none)));
       only = subst (λ (x : List Request). (u : TxnNo) → waits_in os' u ≡ is_among u (s.conversions.items ++ x)) (sym items) (subst (λ (x : List Request). (u : TxnNo) → waits_in os' u ≡ is_among u x) lists (only_insert os os' c.args.r c.wait.ensures.changes.others_wait c.wait.ensures.same (s.conversions.items ++ s.requests.items) [] (subst (λ (x : List Request). (u : TxnNo) → waits_in os u ≡ is_among u x) (sym whole) s.only)));
-      settled = subst (λ (x : List Request). AllBlocked (grants_in os') [] (s.conversions.items ++ x)) (sym items) (settled_as os' g [] _ c.wait.ensures.changes.grants_are (queued_request g s.conversions.items s.requests.items c.args.r s.settled c.requires.blocked))
+      settled = subst (λ (x : List Request). AllBlocked (grants_in os') [] (s.conversions.items ++ x)) (sym items) (settled_as os' g [] _ c.wait.ensures.changes.grants_are (queued_request g s.conversions.items s.requests.items c.args.r s.settled c.requires.blocked));
     }
 
 pub push_reserved-requires : goal.push_reserved-requires

@@ -1,5 +1,4 @@
-use Rattle.std.proofs.Common.{◌≡◌, ◌≤◌, ◌+◌, ◌++◌, ◌∙◌, [], List, ap, sym, subst, arith}
-use Rattle.lock_modes.specs.declared.entry.Request.{Request}
+use Rattle.std.proofs.Common.{◌++◌, ◌∙◌, [], ap, sym, subst, arith}
 use Rattle.lock_modes.specs.Lock.{Grants, released, apply}
 use Rattle.lock_modes.specs.Serving.{Serves}
 use Rattle.lock_modes.specs.declared.event.LockEvent.TheVariants.{Released}
@@ -33,11 +32,11 @@ invariant_of-self c =
       room = record {
         conversions_fit = omega (arith, s.room.conversions_fit, f.conversions_shorter, f.conversions_room);
         requests_fit = omega (arith, s.room.requests_fit, f.requests_shorter, f.requests_room);
-        woken_fit = omega (arith, s.room.woken_fit, f.woken_sum, f.woken_room)
+        woken_fit = omega (arith, s.room.woken_fit, f.woken_sum, f.woken_room);
       };
       waiters = c.serve_both.ensures.served.waiters;
       only = only_left os1 os2 s.conversions.items s.requests.items c.serve_both.new.conversions.items c.serve_both.new.requests.items s.woken.items c.serve_both.new.woken.items w1 (λ u. waits u ∙ s.only u) c.serve_both.ensures.served;
-      settled = settled_both os1 os2 s.conversions.items s.requests.items c.serve_both.new.conversions.items c.serve_both.new.requests.items s.woken.items c.serve_both.new.woken.items c.serve_both.ensures.served
+      settled = settled_both os1 os2 s.conversions.items s.requests.items c.serve_both.new.conversions.items c.serve_both.new.requests.items s.woken.items c.serve_both.new.woken.items c.serve_both.ensures.served;
     }
 
 pub returns-clause-ok : goal.returns-clause-ok
@@ -54,7 +53,7 @@ returns-clause-ok c =
       given = b.woken;
       noted = b.noted;
       order = subst (λ (g : Grants). Serves g [] (s.conversions.items ++ s.requests.items) b.woken q') path b.order;
-      events = state_both os1 os2 (apply (lock s) (Released c.args.t c.args.name)) c.serve_both.new.conversions.items c.serve_both.new.requests.items s.woken.items c.serve_both.new.woken.items (victim_in os2) path (λ u. ap (λ f. f u) v) b
+      events = state_both os1 os2 (apply (lock s) (Released c.args.t c.args.name)) c.serve_both.new.conversions.items c.serve_both.new.requests.items s.woken.items c.serve_both.new.woken.items (victim_in os2) path (λ u. ap (λ f. f u) v) b;
     }
 
 pub returns-clause-settled : goal.returns-clause-settled

@@ -1,4 +1,4 @@
-use Rattle.std.proofs.Common.{◌≡◌, ◌≤◌, ◌+◌, ◌++◌, ◌∙◌, [], List, ap, sym, subst, arith}
+use Rattle.std.proofs.Common.{◌≡◌, ◌++◌, ◌∙◌, [], List, ap, sym, subst, arith}
 use Rattle.lock_modes.specs.declared.entry.Request.{Request}
 use Rattle.lock_modes.specs.Lock.{Grants, released_all, without, apply}
 use Rattle.lock_modes.specs.Serving.{Serves}
@@ -7,11 +7,11 @@ use Rattle.lock_manager.specs.Owners.{grants_in, victim_in}
 use Rattle.dby_types.specs.declared.number.TxnNo.{TxnNo}
 use Rattle.lock_modes.specs.Names.{same_txn}
 use Rattle.lock_manager.specs.Serve.{Waiters, ServedBoth, is_among}
-use Rattle.std.specs.Prelude.{◌&&◌, not, if◌then◌else◌, false}
-use Rattle.lock_manager.specs.Owners.{waits_in, left_in}
+use Rattle.std.specs.Prelude.{◌&&◌, not, false}
+use Rattle.lock_manager.specs.Owners.{waits_in}
 use Rattle.lock_manager.specs.Table.{lock}
 use Rattle.lock_manager.proofs.BothLemmas.{waiters_gone, only_gone, only_left, settled_both, state_both}
-use Rattle.lock_manager.proofs.TableLemmas.{keep_total, keep_waits, keep_lefts, keep_victims, waiters_same, grants_path}
+use Rattle.lock_manager.proofs.TableLemmas.{grants_path}
 use Rattle.lock_manager.proofs.table.LockTable.release_all.Goals as goal
 
 pub serve_both-requires-clause-waiters : goal.serve_both-requires-clause-waiters
@@ -43,8 +43,8 @@ invariant_of-self c =
     let w1 : Waiters os1 (cs ++ rs) = waiters_gone os os1 c.args.t others s.conversions.items s.requests.items s.waiters in
     let only1 : (u : TxnNo) → waits_in os1 u ≡ is_among u (cs ++ rs) = only_gone os os1 c.args.t gone.waits s.conversions.items s.requests.items s.only in
     let served : ServedBoth os1 os2 cs rs c.serve_both.new.conversions.items c.serve_both.new.requests.items s.woken.items c.serve_both.new.woken.items =
-      subst (λ (x : List Request). ServedBoth os1 os2 x rs c.serve_both.new.conversions.items c.serve_both.new.requests.items s.woken.items c.serve_both.new.woken.items) c.drop_requests.ensures.exact
-      (subst (λ (x : List Request). ServedBoth os1 os2 c.drop_requests.new.requests.items x c.serve_both.new.conversions.items c.serve_both.new.requests.items s.woken.items c.serve_both.new.woken.items) c.drop_requests-2.ensures.exact c.serve_both.ensures.served) in
+    subst (λ (x : List Request). ServedBoth os1 os2 x rs c.serve_both.new.conversions.items c.serve_both.new.requests.items s.woken.items c.serve_both.new.woken.items) c.drop_requests.ensures.exact
+    (subst (λ (x : List Request). ServedBoth os1 os2 c.drop_requests.new.requests.items x c.serve_both.new.conversions.items c.serve_both.new.requests.items s.woken.items c.serve_both.new.woken.items) c.drop_requests-2.ensures.exact c.serve_both.ensures.served) in
     let f = c.serve_both.ensures.room in
     let total1 = c.remove.ensures.total in
     let left = c.left-left.ensures.exact in
@@ -53,11 +53,11 @@ invariant_of-self c =
       room = record {
         conversions_fit = omega (arith, s.room.conversions_fit, f.conversions_shorter, f.conversions_room, c.drop_requests.ensures.shorter, c.drop_requests.ensures.held);
         requests_fit = omega (arith, s.room.requests_fit, f.requests_shorter, f.requests_room, c.drop_requests-2.ensures.shorter, c.drop_requests-2.ensures.held);
-        woken_fit = omega (arith, s.room.woken_fit, f.woken_sum, f.woken_room, c.drop_requests.ensures.shorter, c.drop_requests-2.ensures.shorter)
+        woken_fit = omega (arith, s.room.woken_fit, f.woken_sum, f.woken_room, c.drop_requests.ensures.shorter, c.drop_requests-2.ensures.shorter);
       };
       waiters = served.waiters;
       only = only_left os1 os2 cs rs c.serve_both.new.conversions.items c.serve_both.new.requests.items s.woken.items c.serve_both.new.woken.items w1 only1 served;
-      settled = settled_both os1 os2 cs rs c.serve_both.new.conversions.items c.serve_both.new.requests.items s.woken.items c.serve_both.new.woken.items served
+      settled = settled_both os1 os2 cs rs c.serve_both.new.conversions.items c.serve_both.new.requests.items s.woken.items c.serve_both.new.woken.items served;
     }
 
 pub returns-clause-ok : goal.returns-clause-ok
@@ -73,15 +73,15 @@ returns-clause-ok c =
     let w1 : Waiters os1 (cs ++ rs) = waiters_gone os os1 c.args.t others s.conversions.items s.requests.items s.waiters in
     let only1 : (u : TxnNo) → waits_in os1 u ≡ is_among u (cs ++ rs) = only_gone os os1 c.args.t gone.waits s.conversions.items s.requests.items s.only in
     let served : ServedBoth os1 os2 cs rs c.serve_both.new.conversions.items c.serve_both.new.requests.items s.woken.items c.serve_both.new.woken.items =
-      subst (λ (x : List Request). ServedBoth os1 os2 x rs c.serve_both.new.conversions.items c.serve_both.new.requests.items s.woken.items c.serve_both.new.woken.items) c.drop_requests.ensures.exact
-      (subst (λ (x : List Request). ServedBoth os1 os2 c.drop_requests.new.requests.items x c.serve_both.new.conversions.items c.serve_both.new.requests.items s.woken.items c.serve_both.new.woken.items) c.drop_requests-2.ensures.exact c.serve_both.ensures.served) in
+    subst (λ (x : List Request). ServedBoth os1 os2 x rs c.serve_both.new.conversions.items c.serve_both.new.requests.items s.woken.items c.serve_both.new.woken.items) c.drop_requests.ensures.exact
+    (subst (λ (x : List Request). ServedBoth os1 os2 c.drop_requests.new.requests.items x c.serve_both.new.conversions.items c.serve_both.new.requests.items s.woken.items c.serve_both.new.woken.items) c.drop_requests-2.ensures.exact c.serve_both.ensures.served) in
     let path = grants_path os1 (released_all (grants_in os) c.args.t) c.remove.ensures.grants in
     let q' = c.serve_both.new.conversions.items ++ c.serve_both.new.requests.items in
     record {
       given = served.woken;
       noted = served.noted;
       order = subst (λ (g : Grants). Serves g [] (cs ++ rs) served.woken q') path served.order;
-      events = state_both os1 os2 (apply (lock s) (ReleasedAll c.args.t)) c.serve_both.new.conversions.items c.serve_both.new.requests.items s.woken.items c.serve_both.new.woken.items (victim_in os2) path gone.victims served
+      events = state_both os1 os2 (apply (lock s) (ReleasedAll c.args.t)) c.serve_both.new.conversions.items c.serve_both.new.requests.items s.woken.items c.serve_both.new.woken.items (victim_in os2) path gone.victims served;
     }
 
 pub returns-clause-settled : goal.returns-clause-settled
@@ -97,8 +97,8 @@ returns-clause-settled c =
     let w1 : Waiters os1 (cs ++ rs) = waiters_gone os os1 c.args.t others s.conversions.items s.requests.items s.waiters in
     let only1 : (u : TxnNo) → waits_in os1 u ≡ is_among u (cs ++ rs) = only_gone os os1 c.args.t gone.waits s.conversions.items s.requests.items s.only in
     let served : ServedBoth os1 os2 cs rs c.serve_both.new.conversions.items c.serve_both.new.requests.items s.woken.items c.serve_both.new.woken.items =
-      subst (λ (x : List Request). ServedBoth os1 os2 x rs c.serve_both.new.conversions.items c.serve_both.new.requests.items s.woken.items c.serve_both.new.woken.items) c.drop_requests.ensures.exact
-      (subst (λ (x : List Request). ServedBoth os1 os2 c.drop_requests.new.requests.items x c.serve_both.new.conversions.items c.serve_both.new.requests.items s.woken.items c.serve_both.new.woken.items) c.drop_requests-2.ensures.exact c.serve_both.ensures.served) in
+    subst (λ (x : List Request). ServedBoth os1 os2 x rs c.serve_both.new.conversions.items c.serve_both.new.requests.items s.woken.items c.serve_both.new.woken.items) c.drop_requests.ensures.exact
+    (subst (λ (x : List Request). ServedBoth os1 os2 c.drop_requests.new.requests.items x c.serve_both.new.conversions.items c.serve_both.new.requests.items s.woken.items c.serve_both.new.woken.items) c.drop_requests-2.ensures.exact c.serve_both.ensures.served) in
     settled_both os1 os2 cs rs c.serve_both.new.conversions.items c.serve_both.new.requests.items s.woken.items c.serve_both.new.woken.items served
 
 pub returns-clause-room : goal.returns-clause-room
