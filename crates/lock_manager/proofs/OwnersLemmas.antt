@@ -10,6 +10,7 @@ use Rattle.std.proofs.lemmas.List.Sorted.{sum_by-IsPermutation}
 use Rattle.std.proofs.lemmas.Bool.{both_ways, and_parts, and_from}
 use Rattle.dby_types.specs.declared.number.TxnNo.{TxnNo}
 use Rattle.lock_modes.specs.declared.entry.Request.{Request}
+use Rattle.lock_modes.specs.declared.mode.Mode.{Mode}
 use Rattle.lock_modes.specs.declared.modes.Modes.{Modes}
 use Rattle.lock_modes.specs.declared.name.LockName.{LockName}
 use Rattle.lock_modes.specs.Lock.{Grants, released, released_all}
@@ -19,7 +20,7 @@ use Rattle.lock_modes.proofs.ModesLemmas.{hinders_none, held_none}
 use Rattle.lock_modes.proofs.NamesLemmas.{txn_eq, txn_refl}
 use Rattle.lock_manager.specs.declared.owner.Owner.{Owner}
 use Rattle.lock_manager.specs.Holdings.{modes_in}
-use Rattle.lock_manager.specs.Owners.{Owners, modes_of, grants_in, is_in_way, left_of, waits_of, victim_of, left_in, waits_in, left_sum, Changes, IsSame}
+use Rattle.lock_manager.specs.Owners.{Owners, modes_of, grants_in, is_in_way, is_hindering, left_of, waits_of, victim_of, left_in, waits_in, left_sum, Changes, IsSame}
 
 and_no : (a : Bool) → (a && false) ≡ false
 and_no true = refl
@@ -216,3 +217,12 @@ same_modes m n t o w put was same u k =
     ∙ ap (λ v. cond (same_txn t u) v (grants_in m u k)) (same k)
     ∙ read_owner (λ z. modes_of z k) m t u (Some o) (λ v. v) (grants_in m u k) (sym was)
     ∙ both_same (same_txn t u) (grants_in m u k)
+
+-- where nobody's record hinders, nobody does
+pub none_hinders : (n : LockName) (m : Mode) (os : Owners) → list_any (is_hindering n m) os ≡ false → (h : TxnNo) → hinders (grants_in os h n) m ≡ false
+none_hinders n m [] none h = hinders_none m
+none_hinders n m (e ∷ es) none h =
+    let parts = or_none (is_hindering n m e) (list_any (is_hindering n m) es) none in
+    let cases = λ (b : Bool) (q : same_txn h e.0 ≡ b).
+    (elim b as (λ w. hinders (modes_of (cond w (Some e.1) (lookup (same_txn h) es)) n) m ≡ false) [ true ↦ parts.0 | false ↦ none_hinders n m es parts.1 h ]) in
+    cases (same_txn h e.0) refl

@@ -3,6 +3,7 @@ use Rattle.std.specs.Prelude.{◌≡◌, ◌+◌, ℕ, Bool, false, List, [], �
 use Rattle.std.specs.Map.{lookup}
 use Rattle.dby_types.specs.declared.number.TxnNo.{TxnNo}
 use Rattle.lock_modes.specs.declared.modes.Modes.{Modes}
+use Rattle.lock_modes.specs.declared.mode.Mode.{Mode}
 use Rattle.lock_modes.specs.declared.name.LockName.{LockName}
 use Rattle.lock_modes.specs.declared.entry.Request.{Request}
 use Rattle.lock_modes.specs.Lock.{Grants}
@@ -80,3 +81,7 @@ pub record IsSame (old new : Owners) : Type 0 where
   pub waits : (u : TxnNo) → waits_in new u ≡ waits_in old u
   pub victims : (u : TxnNo) → victim_in new u ≡ victim_in old u
   pub total : left_sum new ≡ left_sum old
+
+-- a transaction has a mode on a name that isn't compatible with a wanted one
+abbrev pub is_hindering : LockName → Mode → (TxnNo × Owner) → Bool
+is_hindering n m e = hinders (modes_in e.1.holdings n) m

@@ -4,7 +4,9 @@ use Rattle.std.specs.List.{list_any}
 use Rattle.dby_types.specs.declared.number.TxnNo.{TxnNo}
 use Rattle.lock_modes.specs.declared.entry.Request.{Request}
 use Rattle.lock_modes.specs.declared.name.LockName.{LockName}
-use Rattle.lock_modes.specs.Names.{same_txn}
+use Rattle.lock_modes.specs.declared.mode.Mode.{Mode}
+use Rattle.lock_modes.specs.Modes.{compatible}
+use Rattle.lock_modes.specs.Names.{same_txn, same_name}
 use Rattle.lock_modes.specs.Lock.{without_request}
 use Rattle.lock_modes.specs.Serving.{Serves, granted_all}
 use Rattle.lock_manager.specs.Owners.{Owners, grants_in, left_in, victim_in, waits_in, left_sum}
@@ -60,3 +62,7 @@ pub record ServedBoth (old new : Owners) (conversions requests conversions' requ
   pub waiters : Waiters new (conversions' ++ requests')
   pub conversions_are : without_all woken conversions ≡ conversions'
   pub requests_are : without_all woken requests ≡ requests'
+
+-- a request on a name isn't compatible with a mode
+abbrev pub contests : LockName → Mode → Request → Bool
+contests n m q = same_name q.name n && not (compatible q.mode m)

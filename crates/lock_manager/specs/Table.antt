@@ -4,7 +4,11 @@ use Rattle.dby_types.specs.declared.number.TxnNo.{TxnNo}
 use Rattle.lock_modes.specs.declared.entry.Request.{Request}
 use Rattle.lock_modes.specs.declared.event.LockEvent.{LockEvent}
 use Rattle.lock_modes.specs.Lock.{Lock, queue, apply_all}
-use Rattle.lock_modes.specs.Modes.{is_covered}
+use Rattle.std.specs.List.{list_any}
+use Rattle.lock_modes.specs.declared.mode.Mode.{Mode}
+use Rattle.lock_modes.specs.declared.name.LockName.{LockName}
+use Rattle.lock_modes.specs.Modes.{hinders, is_covered}
+use Rattle.lock_manager.specs.Serve.{contests}
 use Rattle.lock_modes.specs.Names.{same_txn}
 use Rattle.lock_modes.specs.Proper.{IsRefused, MayHave}
 use Rattle.lock_modes.specs.Serving.{Serves, grants_of}
@@ -50,3 +54,8 @@ pub record Gives (old new : LockTable) (es : List LockEvent) : Type 0 where
 -- one name less is left to a transaction, unless it has something on the name already
 abbrev pub IsSpent : LockTable → LockTable → TxnNo → Bool → Type 0
 IsSpent old new t held = (u : TxnNo) → spare_of new u ≡ (if same_txn t u && not held then spare_of old u - 1 else spare_of old u)
+
+-- nobody has or asks for a mode on the name that isn't compatible with this one
+pub record IsUncontested (l : Lock) (n : LockName) (m : Mode) : Type 0 where
+  pub granted : (h : TxnNo) → hinders (l.grants h n) m ≡ false
+  pub queued : list_any (contests n m) (queue l) ≡ false

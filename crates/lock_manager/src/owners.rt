@@ -11,6 +11,7 @@ ghost use Rattle.lock_modes.specs.declared.name.LockName.{LockName};
 use crate::owner::Owner;
 use dby_types::number::TxnNo;
 use lock_modes::entry::Request;
+use lock_modes::mode::Mode;
 use lock_modes::modes::Modes;
 use lock_modes::name::{LockName, is_same_txn};
 use std::alloc::{AllocError, Global};
@@ -158,4 +159,16 @@ pub fn reserve(owners: &mut Owners, txn: TxnNo, n: u32) -> Result<(), AllocError
         Some(owner) => owner.reserve(n),
         None => Ok(()),
     }
+}
+
+/// A transaction whose modes on the name aren't compatible with this one.
+pub fn holder_hinders(owners: &Owners, name: LockName, mode: Mode) -> Option<TxnNo>
+    ensures found { MatchOption result ((h : TxnNo) → hinders (grants_in owners.now.entries h name) mode ≡ false) (λ h. hinders (grants_in owners.now.entries h name) mode ≡ true) }
+{
+    for (txn, owner) in owners {
+        if owner.holdings.modes(name).hinders(mode) {
+            return Some(*txn);
+        }
+    }
+    None
 }

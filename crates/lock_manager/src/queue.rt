@@ -6,7 +6,8 @@ ghost use Rattle.lock_modes.specs.Names.{same_txn, same_name};
 ghost use Rattle.lock_modes.specs.Lock.{without};
 ghost use Rattle.lock_modes.specs.Waits.{asks_before, opposes, blocks, IsFree, IsBlocked};
 ghost use Rattle.lock_manager.specs.Owners.{grants_in};
-ghost use Rattle.lock_manager.specs.Serve.{Waiters, Served, ServedBoth, is_among};
+ghost use Rattle.lock_manager.specs.Serve.{Waiters, Served, ServedBoth, is_among, contests};
+ghost use Rattle.std.specs.List.{list_any};
 ghost use Rattle.lock_manager.specs.Room.{FitsAsBefore, Grows, HasRoom};
 ghost use Rattle.std.specs.VecDeque.{deque_len, deque_capacity};
 ghost use Rattle.std.specs.Vec.{vec_len, vec_capacity};
@@ -14,8 +15,8 @@ ghost use Rattle.std.specs.Vec.{vec_len, vec_capacity};
 use crate::owners::{Owners, grant_queued, holder_in_way};
 use dby_types::number::TxnNo;
 use lock_modes::entry::Request;
-use lock_modes::mode::compatible;
-use lock_modes::name::{is_same_name, is_same_txn};
+use lock_modes::mode::{Mode, compatible};
+use lock_modes::name::{LockName, is_same_name, is_same_txn};
 use std::alloc::AllocError;
 use std::collections::VecDeque;
 
@@ -137,4 +138,11 @@ pub fn make_room(
         return Err(AllocError);
     };
     woken.reserve(all)
+}
+
+/// Whether a request on the name isn't compatible with the mode.
+pub fn is_contested(requests: &[Request], name: LockName, mode: Mode) -> bool
+    ensures exact { result ≡ list_any (contests name mode) requests.now }
+{
+    requests.iter().any(|q| is_same_name(q.name, name) && !compatible(q.mode, mode))
 }

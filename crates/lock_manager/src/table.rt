@@ -12,7 +12,7 @@ ghost use Rattle.lock_manager.specs.Owners.{left_sum, waits_in, grants_in};
 ghost use Rattle.lock_manager.specs.Serve.{Waiters, is_among};
 
 use crate::owners::{self, Owners};
-use crate::queue::{drop_requests, in_way, make_room, serve_both, waits};
+use crate::queue::{drop_requests, in_way, is_contested, make_room, serve_both, waits};
 use crate::tried::Tried;
 use dby_types::number::TxnNo;
 use lock_modes::entry::Request;
@@ -39,7 +39,7 @@ pub struct LockTable {
 }
 
 impl LockTable {
-    ghost use Rattle.lock_manager.specs.Table.{lock, spare_of, woken_of, IsCause, IsHindrance, IsSpent, Gives};
+    ghost use Rattle.lock_manager.specs.Table.{lock, spare_of, woken_of, IsCause, IsHindrance, IsSpent, IsUncontested, Gives};
 
     /// A table without locks.
     pub fn new(alloc: Global) -> LockTable
@@ -80,6 +80,16 @@ impl LockTable {
         ensures exact { IsTrue result ↔ (waiting (lock self.now) t ≡ None) }
     {
         !waits(&self.conversions, &self.requests, t)
+    }
+
+    /// Whether the mode is compatible with all that is granted and asked for on the name.
+    pub fn would_grant(&self, name: LockName, mode: Mode) -> bool
+        ensures exact { IsTrue result ↔ IsUncontested (lock self.now) name mode }
+    {
+        let held = owners::holder_hinders(&self.owners, name, mode).is_some();
+        let asked = is_contested(&self.conversions, name, mode);
+        let queued = is_contested(&self.requests, name, mode);
+        !held && (!asked && !queued)
     }
 
     /// Notes a waiting transaction as the victim of a cycle.
