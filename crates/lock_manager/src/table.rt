@@ -1,6 +1,6 @@
 //! The lock table: who has which locks, and who waits.
 
-ghost use Rattle.std.specs.Prelude.{◌≡◌, ◌⊎◌, ◌≤◌, ◌<◌, ◌+◌, ◌-◌, ◌&&◌, ◌||◌, ℕ, true, false, not, [], ◌∷◌, ◌++◌, Some, None, OnOk, OnErr, if◌then◌else◌, MatchOption, IsTrue, ◌↔◌, is_ok};
+ghost use Rattle.std.specs.Prelude.{◌≡◌, ◌⊎◌, ◌≤◌, ◌<◌, ◌+◌, ◌-◌, ◌&&◌, ◌||◌, ℕ, true, false, not, [], ◌∷◌, ◌++◌, Some, None, IsSome, OnOk, OnErr, if◌then◌else◌, MatchOption, IsTrue, ◌↔◌, is_ok};
 ghost use Rattle.dby_types.specs.declared.number.TxnNo.{TxnNo};
 ghost use Rattle.lock_modes.specs.Names.{same_txn};
 ghost use Rattle.lock_modes.specs.Lock.{no_locks, apply, request, has_grant, queue};
@@ -94,7 +94,7 @@ impl LockTable {
 
     /// Notes a waiting transaction as the victim of a cycle.
     pub fn choose(&mut self, t: TxnNo)
-        requires waits { waits_in self.old.owners.entries t ≡ true }
+        requires waits { IsSome (waiting (lock self.old) t) }
         ensures events { lock self.new ≡ apply (lock self.old) (Chosen t) }
         ensures woken { woken_of self.new ≡ woken_of self.old }
         ensures room { (u : TxnNo) → spare_of self.new u ≡ spare_of self.old u }

@@ -1,6 +1,7 @@
 use Rattle.std.proofs.Common.{◌++◌, ◌∙◌}
+use Rattle.lock_manager.specs.Table.{lock}
 use Rattle.lock_manager.specs.Owners.{grants_in}
-use Rattle.lock_manager.proofs.TableLemmas.{keep_total, keep_waits, waiters_same, settled_as}
+use Rattle.lock_manager.proofs.TableLemmas.{keep_total, keep_waits, waiters_same, settled_as, among}
 use Rattle.lock_manager.proofs.table.LockTable.choose.Goals as goal
 
 pub invariant_of-self : goal.invariant_of-self
@@ -15,3 +16,6 @@ invariant_of-self c =
       only = λ u. waits u ∙ s.only u;
       settled = settled_as c.choose.new.owners.entries (grants_in s.owners.entries) _ q c.choose.ensures.changes.grants_are s.settled;
     }
+
+pub choose-requires : goal.choose-requires
+choose-requires c = c.args.self.now.only c.args.t ∙ among (lock c.args.self.now) c.args.t c.requires.waits
