@@ -1,0 +1,105 @@
+use Rattle.std.proofs.Common.{◌≡◌, ◌++◌, ◌∙◌, [], List, ap, sym, subst, arith}
+use Rattle.lock_modes.specs.declared.entry.Request.{Request}
+use Rattle.lock_modes.specs.Lock.{Grants, released_all, without, apply}
+use Rattle.lock_modes.specs.Serving.{Serves}
+use Rattle.lock_modes.specs.declared.event.LockEvent.TheVariants.{ReleasedAll}
+use Rattle.lock_manager.specs.Owners.{grants_in, victim_in}
+use Rattle.dby_types.specs.declared.number.TxnNo.{TxnNo}
+use Rattle.lock_modes.specs.Names.{same_txn}
+use Rattle.lock_manager.specs.Serve.{Waiters, ServedBoth, is_among}
+use Rattle.std.specs.Prelude.{◌&&◌, not, false}
+use Rattle.lock_manager.specs.Owners.{waits_in}
+use Rattle.lock_manager.specs.Table.{lock}
+use Rattle.lock_manager.proofs.BothLemmas.{waiters_gone, only_gone, only_left, settled_both, state_both}
+use Rattle.lock_manager.proofs.TableLemmas.{grants_path}
+use Rattle.lock_manager.proofs.table.LockTable.release_all.Goals as goal
+
+pub serve_both-requires-clause-waiters : goal.serve_both-requires-clause-waiters
+serve_both-requires-clause-waiters c =
+    let s = c.args.self.now in
+    let os = s.owners.entries in
+    let os1 = c.remove.new.owners.entries in
+    let cs = without c.args.t s.conversions.items in
+    let rs = without c.args.t s.requests.items in
+    let gone = c.remove.ensures.gone in
+    let others : (u : TxnNo) → same_txn c.args.t u ≡ false → waits_in os1 u ≡ waits_in os u = λ u other. gone.waits u ∙ ap (λ z. not z && waits_in os u) other in
+    let w1 : Waiters os1 (cs ++ rs) = waiters_gone os os1 c.args.t others s.conversions.items s.requests.items s.waiters in
+    let only1 : (u : TxnNo) → waits_in os1 u ≡ is_among u (cs ++ rs) = only_gone os os1 c.args.t gone.waits s.conversions.items s.requests.items s.only in
+    subst (λ (x : List Request). Waiters os1 (x ++ c.drop_requests-2.new.requests.items)) (sym c.drop_requests.ensures.exact) (subst (λ (x : List Request). Waiters os1 (cs ++ x)) (sym c.drop_requests-2.ensures.exact) w1)
+
+pub serve_both-requires-clause-room : goal.serve_both-requires-clause-room
+serve_both-requires-clause-room c = omega (arith, c.args.self.now.room.woken_fit, c.drop_requests.ensures.shorter, c.drop_requests-2.ensures.shorter)
+
+pub invariant_of-self : goal.invariant_of-self
+invariant_of-self c =
+    let s = c.args.self.now in
+    let os = s.owners.entries in
+    let os1 = c.remove.new.owners.entries in
+    let os2 = c.serve_both.new.owners.entries in
+    let cs = without c.args.t s.conversions.items in
+    let rs = without c.args.t s.requests.items in
+    let gone = c.remove.ensures.gone in
+    let others : (u : TxnNo) → same_txn c.args.t u ≡ false → waits_in os1 u ≡ waits_in os u = λ u other. gone.waits u ∙ ap (λ z. not z && waits_in os u) other in
+    let w1 : Waiters os1 (cs ++ rs) = waiters_gone os os1 c.args.t others s.conversions.items s.requests.items s.waiters in
+    let only1 : (u : TxnNo) → waits_in os1 u ≡ is_among u (cs ++ rs) = only_gone os os1 c.args.t gone.waits s.conversions.items s.requests.items s.only in
+    let served : ServedBoth os1 os2 cs rs c.serve_both.new.conversions.items c.serve_both.new.requests.items s.woken.items c.serve_both.new.woken.items =
+    subst (λ (x : List Request). ServedBoth os1 os2 x rs c.serve_both.new.conversions.items c.serve_both.new.requests.items s.woken.items c.serve_both.new.woken.items) c.drop_requests.ensures.exact
+    (subst (λ (x : List Request). ServedBoth os1 os2 c.drop_requests.new.requests.items x c.serve_both.new.conversions.items c.serve_both.new.requests.items s.woken.items c.serve_both.new.woken.items) c.drop_requests-2.ensures.exact c.serve_both.ensures.served) in
+    let f = c.serve_both.ensures.room in
+    let total1 = c.remove.ensures.total in
+    let left = c.left-left.ensures.exact in
+    record {
+      total = omega (arith, s.total, total1, left, served.wakes.total);
+      room = record {
+        conversions_fit = omega (arith, s.room.conversions_fit, f.conversions_shorter, f.conversions_room, c.drop_requests.ensures.shorter, c.drop_requests.ensures.held);
+        requests_fit = omega (arith, s.room.requests_fit, f.requests_shorter, f.requests_room, c.drop_requests-2.ensures.shorter, c.drop_requests-2.ensures.held);
+        woken_fit = omega (arith, s.room.woken_fit, f.woken_sum, f.woken_room, c.drop_requests.ensures.shorter, c.drop_requests-2.ensures.shorter);
+      };
+      waiters = served.waiters;
+      only = only_left os1 os2 cs rs c.serve_both.new.conversions.items c.serve_both.new.requests.items s.woken.items c.serve_both.new.woken.items w1 only1 served;
+      settled = settled_both os1 os2 cs rs c.serve_both.new.conversions.items c.serve_both.new.requests.items s.woken.items c.serve_both.new.woken.items served;
+    }
+
+pub returns-clause-ok : goal.returns-clause-ok
+returns-clause-ok c =
+    let s = c.args.self.now in
+    let os = s.owners.entries in
+    let os1 = c.remove.new.owners.entries in
+    let os2 = c.serve_both.new.owners.entries in
+    let cs = without c.args.t s.conversions.items in
+    let rs = without c.args.t s.requests.items in
+    let gone = c.remove.ensures.gone in
+    let others : (u : TxnNo) → same_txn c.args.t u ≡ false → waits_in os1 u ≡ waits_in os u = λ u other. gone.waits u ∙ ap (λ z. not z && waits_in os u) other in
+    let w1 : Waiters os1 (cs ++ rs) = waiters_gone os os1 c.args.t others s.conversions.items s.requests.items s.waiters in
+    let only1 : (u : TxnNo) → waits_in os1 u ≡ is_among u (cs ++ rs) = only_gone os os1 c.args.t gone.waits s.conversions.items s.requests.items s.only in
+    let served : ServedBoth os1 os2 cs rs c.serve_both.new.conversions.items c.serve_both.new.requests.items s.woken.items c.serve_both.new.woken.items =
+    subst (λ (x : List Request). ServedBoth os1 os2 x rs c.serve_both.new.conversions.items c.serve_both.new.requests.items s.woken.items c.serve_both.new.woken.items) c.drop_requests.ensures.exact
+    (subst (λ (x : List Request). ServedBoth os1 os2 c.drop_requests.new.requests.items x c.serve_both.new.conversions.items c.serve_both.new.requests.items s.woken.items c.serve_both.new.woken.items) c.drop_requests-2.ensures.exact c.serve_both.ensures.served) in
+    let path = grants_path os1 (released_all (grants_in os) c.args.t) c.remove.ensures.grants in
+    let q' = c.serve_both.new.conversions.items ++ c.serve_both.new.requests.items in
+    record {
+      given = served.woken;
+      noted = served.noted;
+      order = subst (λ (g : Grants). Serves g [] (cs ++ rs) served.woken q') path served.order;
+      events = state_both os1 os2 (apply (lock s) (ReleasedAll c.args.t)) c.serve_both.new.conversions.items c.serve_both.new.requests.items s.woken.items c.serve_both.new.woken.items (victim_in os2) path gone.victims served;
+    }
+
+pub returns-clause-settled : goal.returns-clause-settled
+returns-clause-settled c =
+    let s = c.args.self.now in
+    let os = s.owners.entries in
+    let os1 = c.remove.new.owners.entries in
+    let os2 = c.serve_both.new.owners.entries in
+    let cs = without c.args.t s.conversions.items in
+    let rs = without c.args.t s.requests.items in
+    let gone = c.remove.ensures.gone in
+    let others : (u : TxnNo) → same_txn c.args.t u ≡ false → waits_in os1 u ≡ waits_in os u = λ u other. gone.waits u ∙ ap (λ z. not z && waits_in os u) other in
+    let w1 : Waiters os1 (cs ++ rs) = waiters_gone os os1 c.args.t others s.conversions.items s.requests.items s.waiters in
+    let only1 : (u : TxnNo) → waits_in os1 u ≡ is_among u (cs ++ rs) = only_gone os os1 c.args.t gone.waits s.conversions.items s.requests.items s.only in
+    let served : ServedBoth os1 os2 cs rs c.serve_both.new.conversions.items c.serve_both.new.requests.items s.woken.items c.serve_both.new.woken.items =
+    subst (λ (x : List Request). ServedBoth os1 os2 x rs c.serve_both.new.conversions.items c.serve_both.new.requests.items s.woken.items c.serve_both.new.woken.items) c.drop_requests.ensures.exact
+    (subst (λ (x : List Request). ServedBoth os1 os2 c.drop_requests.new.requests.items x c.serve_both.new.conversions.items c.serve_both.new.requests.items s.woken.items c.serve_both.new.woken.items) c.drop_requests-2.ensures.exact c.serve_both.ensures.served) in
+    settled_both os1 os2 cs rs c.serve_both.new.conversions.items c.serve_both.new.requests.items s.woken.items c.serve_both.new.woken.items served
+
+pub returns-clause-room : goal.returns-clause-room
+returns-clause-room c = λ u. c.serve_both.ensures.served.wakes.lefts u ∙ c.remove.ensures.gone.lefts u

@@ -1,0 +1,174 @@
+//! The open transactions, with what each has.
+
+ghost use Rattle.std.specs.Prelude.{◌≡◌, ◌≤◌, ◌<◌, ◌+◌, ℕ, true, false, ◌⊎◌, ◌-◌, ◌&&◌, not, OnOk, OnErr, Some, None, IsSome, is_ok, if◌then◌else◌, MatchOption, length};
+ghost use Rattle.dby_types.specs.declared.number.TxnNo.{TxnNo};
+ghost use Rattle.lock_modes.specs.Modes.{hinders, is_held};
+ghost use Rattle.lock_modes.specs.Lock.{granted, released, released_all};
+ghost use Rattle.lock_modes.specs.Names.{same_name, same_txn};
+ghost use Rattle.lock_manager.specs.Owners.{owner_of, grants_in, left_in, victim_in, waits_in, left_sum, Changes, IsGone, IsSame};
+ghost use Rattle.lock_modes.specs.declared.name.LockName.{LockName};
+
+use crate::owner::Owner;
+use dby_types::number::TxnNo;
+use lock_modes::entry::Request;
+use lock_modes::mode::Mode;
+use lock_modes::modes::Modes;
+use lock_modes::name::{LockName, is_same_txn};
+use std::alloc::{AllocError, Global};
+use std::collections::HashMap;
+
+pub type Owners = HashMap<TxnNo, Owner>;
+
+/// What a transaction has on a name.
+pub fn modes_of(owners: &Owners, txn: TxnNo, name: LockName) -> Modes
+    ensures exact { result ≡ grants_in owners.now.entries txn name }
+{
+    match owners.get(&txn) {
+        Some(owner) => owner.holdings.modes(name),
+        None => Modes::none(),
+    }
+}
+
+/// Whether a transaction was chosen as a victim.
+pub fn is_victim(owners: &Owners, txn: TxnNo) -> bool
+    ensures exact { result ≡ victim_in owners.now.entries txn }
+{
+    match owners.get(&txn) {
+        Some(owner) => owner.victim,
+        None => false,
+    }
+}
+
+/// For how many names more a transaction may ask.
+pub fn left(owners: &Owners, txn: TxnNo) -> u32
+    ensures exact { result ≡ left_in owners.now.entries txn }
+{
+    match owners.get(&txn) {
+        Some(owner) => owner.left,
+        None => 0,
+    }
+}
+
+/// A transaction, other than the one that asks, whose modes on the name aren't compatible with the wanted one.
+pub fn holder_in_way(owners: &Owners, r: Request) -> Option<TxnNo>
+    ensures found { MatchOption result ((h : TxnNo) → (not (same_txn h r.txn) && hinders (grants_in owners.now.entries h r.name) r.mode) ≡ false) (λ h. (not (same_txn h r.txn) && hinders (grants_in owners.now.entries h r.name) r.mode) ≡ true) }
+{
+    for (txn, owner) in owners {
+        if !is_same_txn(*txn, r.txn) && owner.holdings.modes(r.name).hinders(r.mode) {
+            return Some(*txn);
+        }
+    }
+    None
+}
+
+/// Adds a mode to what a transaction has, for which it spends one of the names that are left to it if the name is new to it.
+pub fn grant(owners: &mut Owners, r: Request)
+    requires { (is_held (grants_in owners.old.entries r.txn r.name) ≡ true) ⊎ (0 < left_in owners.old.entries r.txn) }
+    ensures changes { Changes owners.old.entries owners.new.entries r.txn (granted (grants_in owners.old.entries) r) }
+    ensures room { left_in owners.new.entries r.txn ≡ (if is_held (grants_in owners.old.entries r.txn r.name) then left_in owners.old.entries r.txn else left_in owners.old.entries r.txn - 1) }
+    ensures same { waits_in owners.new.entries r.txn ≡ waits_in owners.old.entries r.txn }
+    ensures victim { victim_in owners.new.entries r.txn ≡ victim_in owners.old.entries r.txn }
+{
+    if let Some(owner) = owners.get_mut(&r.txn) {
+        owner.grant(r.name, r.mode);
+    }
+}
+
+/// Adds the mode that was waited for, in the room that was set aside.
+pub fn grant_queued(owners: &mut Owners, r: Request)
+    requires { waits_in owners.old.entries r.txn ≡ true }
+    ensures changes { Changes owners.old.entries owners.new.entries r.txn (granted (grants_in owners.old.entries) r) }
+    ensures room { left_in owners.new.entries r.txn ≡ left_in owners.old.entries r.txn }
+    ensures same { waits_in owners.new.entries r.txn ≡ false }
+    ensures victim { victim_in owners.new.entries r.txn ≡ victim_in owners.old.entries r.txn }
+{
+    if let Some(owner) = owners.get_mut(&r.txn) {
+        owner.grant_queued(r.name, r.mode);
+    }
+}
+
+/// Sets room aside for a request.
+pub fn wait(owners: &mut Owners, txn: TxnNo)
+    requires room { 0 < left_in owners.old.entries txn }
+    requires idle { waits_in owners.old.entries txn ≡ false }
+    ensures changes { Changes owners.old.entries owners.new.entries txn (grants_in owners.old.entries) }
+    ensures room { left_in owners.new.entries txn + 1 ≡ left_in owners.old.entries txn }
+    ensures same { waits_in owners.new.entries txn ≡ true }
+    ensures victim { victim_in owners.new.entries txn ≡ victim_in owners.old.entries txn }
+{
+    if let Some(owner) = owners.get_mut(&txn) {
+        owner.wait();
+    }
+}
+
+/// Takes away all that a transaction has on a name.
+pub fn release(owners: &mut Owners, txn: TxnNo, name: LockName)
+    ensures changes { Changes owners.old.entries owners.new.entries txn (released (grants_in owners.old.entries) txn name) }
+    ensures room { left_in owners.new.entries txn ≡ left_in owners.old.entries txn }
+    ensures same { waits_in owners.new.entries txn ≡ waits_in owners.old.entries txn }
+    ensures victim { victim_in owners.new.entries txn ≡ victim_in owners.old.entries txn }
+{
+    if let Some(owner) = owners.get_mut(&txn) {
+        owner.release(name);
+    }
+}
+
+/// Notes a waiting transaction as a victim.
+pub fn choose(owners: &mut Owners, txn: TxnNo)
+    requires { waits_in owners.old.entries txn ≡ true }
+    ensures changes { Changes owners.old.entries owners.new.entries txn (grants_in owners.old.entries) }
+    ensures room { left_in owners.new.entries txn ≡ left_in owners.old.entries txn }
+    ensures same { waits_in owners.new.entries txn ≡ waits_in owners.old.entries txn }
+    ensures victim { victim_in owners.new.entries txn ≡ true }
+{
+    if let Some(owner) = owners.get_mut(&txn) {
+        owner.choose();
+    }
+}
+
+/// Takes a transaction's record away.
+pub fn remove(owners: &mut Owners, txn: TxnNo)
+    ensures grants { (u : TxnNo) (n : LockName) → grants_in owners.new.entries u n ≡ released_all (grants_in owners.old.entries) txn u n }
+    ensures gone { IsGone owners.old.entries owners.new.entries txn }
+    ensures total { left_sum owners.new.entries + left_in owners.old.entries txn ≡ left_sum owners.old.entries }
+{
+    let _ = owners.remove(&txn);
+}
+
+/// Gives a transaction a record, if it has none.
+pub fn open(owners: &mut Owners, alloc: Global, txn: TxnNo) -> Result<(), AllocError>
+    ensures same { IsSame owners.old.entries owners.new.entries }
+    ensures ok { OnOk result (IsSome (owner_of owners.new.entries txn)) }
+{
+    if owners.contains_key(&txn) {
+        return Ok(());
+    }
+    owners.insert(txn, Owner::new(alloc))?;
+    Ok(())
+}
+
+/// Lets a transaction that has a record ask for n names, which are no fewer than before.
+pub fn reserve(owners: &mut Owners, txn: TxnNo, n: u32) -> Result<(), AllocError>
+    requires { IsSome (owner_of owners.old.entries txn) }
+    ensures changes { Changes owners.old.entries owners.new.entries txn (grants_in owners.old.entries) }
+    ensures room { left_in owners.new.entries txn ≡ (if is_ok result then n else left_in owners.old.entries txn) }
+    ensures same { waits_in owners.new.entries txn ≡ waits_in owners.old.entries txn }
+    ensures victim { victim_in owners.new.entries txn ≡ victim_in owners.old.entries txn }
+{
+    match owners.get_mut(&txn) {
+        Some(owner) => owner.reserve(n),
+        None => Ok(()),
+    }
+}
+
+/// A transaction whose modes on the name aren't compatible with this one.
+pub fn holder_hinders(owners: &Owners, name: LockName, mode: Mode) -> Option<TxnNo>
+    ensures found { MatchOption result ((h : TxnNo) → hinders (grants_in owners.now.entries h name) mode ≡ false) (λ h. hinders (grants_in owners.now.entries h name) mode ≡ true) }
+{
+    for (txn, owner) in owners {
+        if owner.holdings.modes(name).hinders(mode) {
+            return Some(*txn);
+        }
+    }
+    None
+}

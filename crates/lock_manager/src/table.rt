@@ -1,0 +1,282 @@
+//! The lock table: who has which locks, and who waits.
+
+ghost use Rattle.std.specs.Prelude.{◌≡◌, ◌⊎◌, ◌≤◌, ◌<◌, ◌+◌, ◌-◌, ◌&&◌, ◌||◌, ℕ, true, false, not, [], ◌∷◌, ◌++◌, Some, None, IsSome, OnOk, OnErr, if◌then◌else◌, MatchOption, IsTrue, ◌↔◌, is_ok};
+ghost use Rattle.dby_types.specs.declared.number.TxnNo.{TxnNo};
+ghost use Rattle.lock_modes.specs.Names.{same_txn};
+ghost use Rattle.lock_modes.specs.Lock.{no_locks, apply, request, has_grant, queue};
+ghost use Rattle.lock_modes.specs.Waits.{waiting, IsSettled, IsBlocked, AllBlocked};
+ghost use Rattle.lock_modes.specs.Proper.{IsRefused};
+ghost use Rattle.lock_modes.specs.declared.event.LockEvent.TheVariants.{Granted, Queued, Released, ReleasedAll, Chosen};
+ghost use Rattle.lock_manager.specs.Room.{HasRoom, Waiters-prop, AllBlocked-prop};
+ghost use Rattle.lock_manager.specs.Owners.{left_sum, waits_in, grants_in};
+ghost use Rattle.lock_manager.specs.Serve.{Waiters, is_among};
+
+use crate::owners::{self, Owners};
+use crate::queue::{drop_requests, in_way, is_contested, make_room, serve_both, waits};
+use crate::tried::Tried;
+use dby_types::number::TxnNo;
+use lock_modes::entry::Request;
+use lock_modes::mode::Mode;
+use lock_modes::name::LockName;
+use std::alloc::{AllocError, Global};
+use std::collections::{HashMap, VecDeque};
+
+/// Who has which locks, and who waits.
+#[derive(Drop)]
+pub struct LockTable {
+    alloc: Global,
+    owners: Owners,
+    /// For how many names more all transactions may ask.
+    left: usize,
+    conversions: Vec<Request>,
+    requests: Vec<Request>,
+    woken: VecDeque<Request>,
+    ghost total: { left ≡ left_sum owners.entries },
+    ghost room: { HasRoom left conversions requests woken },
+    ghost waiters: { Waiters owners.entries (conversions.items ++ requests.items) } by { Waiters-prop _ _ },
+    ghost only: { (t : TxnNo) → waits_in owners.entries t ≡ is_among t (conversions.items ++ requests.items) },
+    ghost settled: { AllBlocked (grants_in owners.entries) [] (conversions.items ++ requests.items) } by { AllBlocked-prop _ _ _ },
+}
+
+impl LockTable {
+    ghost use Rattle.lock_manager.specs.Table.{lock, spare_of, woken_of, IsCause, IsHindrance, IsSpent, IsUncontested, Gives};
+
+    /// A table without locks.
+    pub fn new(alloc: Global) -> LockTable
+        ensures none { lock result ≡ no_locks }
+        ensures room { (t : TxnNo) → spare_of result t ≡ 0 }
+        ensures woken { woken_of result ≡ [] }
+    {
+        LockTable {
+            alloc,
+            owners: HashMap::new(alloc),
+            left: 0,
+            conversions: Vec::new(alloc),
+            requests: Vec::new(alloc),
+            woken: VecDeque::new(alloc),
+        }
+    }
+
+    /// Whether a transaction was chosen as a victim.
+    pub fn is_victim(&self, t: TxnNo) -> bool
+        ensures exact { result ≡ (lock self.now).victims t }
+    {
+        owners::is_victim(&self.owners, t)
+    }
+
+    /// A queued request that was granted and not given yet, in the order of the grants.
+    pub fn woken(&mut self) -> Option<(TxnNo, LockName, Mode)>
+        ensures given { MatchOption result (woken_of self.old ≡ []) (λ g. woken_of self.old ≡ request g.0 g.1 g.2 ∷ woken_of self.new) }
+        ensures none { result ≡ None → woken_of self.new ≡ [] }
+        ensures same { lock self.new ≡ lock self.old }
+        ensures room { (t : TxnNo) → spare_of self.new t ≡ spare_of self.old t }
+    {
+        let r = self.woken.pop_front()?;
+        Some((r.txn, r.name, r.mode))
+    }
+
+    /// Whether a transaction waits for nothing.
+    pub fn granted(&self, t: TxnNo) -> bool
+        ensures exact { IsTrue result ↔ (waiting (lock self.now) t ≡ None) }
+    {
+        !waits(&self.conversions, &self.requests, t)
+    }
+
+    /// Whether the mode is compatible with all that is granted and asked for on the name.
+    pub fn would_grant(&self, name: LockName, mode: Mode) -> bool
+        ensures exact { IsTrue result ↔ IsUncontested (lock self.now) name mode }
+    {
+        let held = owners::holder_hinders(&self.owners, name, mode).is_some();
+        let asked = is_contested(&self.conversions, name, mode);
+        let queued = is_contested(&self.requests, name, mode);
+        !held && (!asked && !queued)
+    }
+
+    /// Notes a waiting transaction as the victim of a cycle.
+    pub fn choose(&mut self, t: TxnNo)
+        requires waits { IsSome (waiting (lock self.old) t) }
+        ensures events { lock self.new ≡ apply (lock self.old) (Chosen t) }
+        ensures woken { woken_of self.new ≡ woken_of self.old }
+        ensures room { (u : TxnNo) → spare_of self.new u ≡ spare_of self.old u }
+    {
+        owners::choose(&mut self.owners, t);
+    }
+
+    /// Who is in the way of a request: nobody where what the transaction has covers it.
+    fn hindrance(&self, r: Request) -> Option<TxnNo>
+        ensures cause { IsHindrance (lock self.now) r result }
+    {
+        let modes = owners::modes_of(&self.owners, r.txn, r.name);
+        if modes.covers(r.mode) {
+            return None;
+        }
+        if modes.is_held() {
+            in_way(&self.owners, &self.conversions, &[], r)
+        } else {
+            in_way(&self.owners, &self.conversions, &self.requests, r)
+        }
+    }
+
+    /// Lets a transaction ask for at least n names more. Nothing else takes memory: what its requests need, and the grants of
+    /// those that are queued, is taken here.
+    pub fn reserve(&mut self, t: TxnNo, n: u32) -> Result<(), AllocError>
+        ensures ok { OnOk result (n ≤ spare_of self.new t) }
+        ensures keeps { (u : TxnNo) → spare_of self.old u ≤ spare_of self.new u }
+        ensures err { OnErr result ((u : TxnNo) → spare_of self.new u ≡ spare_of self.old u) }
+        ensures same { lock self.new ≡ lock self.old }
+        ensures woken { woken_of self.new ≡ woken_of self.old }
+    {
+        let had = owners::left(&self.owners, t);
+        if n <= had {
+            return Ok(());
+        }
+        let Some(left) = self.left.checked_add((n - had) as usize) else {
+            return Err(AllocError);
+        };
+        self.widen(t, n, left)
+    }
+
+    fn widen(&mut self, t: TxnNo, n: u32, left: usize) -> Result<(), AllocError>
+        requires more { spare_of self.old t ≤ n }
+        requires sum { left ≡ self.old.left + (n - spare_of self.old t) }
+        ensures ok { (u : TxnNo) → spare_of self.new u ≡ (if is_ok result && same_txn t u then n else spare_of self.old u) }
+        ensures same { lock self.new ≡ lock self.old }
+        ensures woken { woken_of self.new ≡ woken_of self.old }
+    {
+        make_room(
+            &mut self.conversions,
+            &mut self.requests,
+            &mut self.woken,
+            left,
+        )?;
+        owners::open(&mut self.owners, self.alloc, t)?;
+        match owners::reserve(&mut self.owners, t, n) {
+            Ok(()) => {
+                self.left = left;
+                Ok(())
+            }
+            Err(e) => Err(e),
+        }
+    }
+
+    /// Asks for a mode on a name, and has it at once or not at all.
+    pub fn try_lock(&mut self, t: TxnNo, name: LockName, mode: Mode) -> Tried
+        requires idle { waiting (lock self.old) t ≡ None }
+        requires room { (has_grant (lock self.old).grants t name ≡ true) ⊎ (0 < spare_of self.old t) }
+        ensures cause { IsCause (lock self.old) (request t name mode) result }
+        ensures ok { result ≡ Tried.Granted → lock self.new ≡ apply (lock self.old) (Granted t name mode) }
+        ensures err { (h : TxnNo) → result ≡ Tried.Conflict h → lock self.new ≡ lock self.old }
+        ensures room { result ≡ Tried.Granted → IsSpent self.old self.new t (has_grant (lock self.old).grants t name) }
+        ensures woken { woken_of self.new ≡ woken_of self.old }
+        ensures held { (h : TxnNo) → result ≡ Tried.Conflict h → (u : TxnNo) → spare_of self.new u ≡ spare_of self.old u }
+    {
+        let r = Request { txn: t, name, mode };
+        match self.hindrance(r) {
+            Some(h) => Tried::Conflict(h),
+            None => {
+                self.grant(r);
+                Tried::Granted
+            }
+        }
+    }
+
+    /// Queues a request that would be refused now: behind those of its kind.
+    pub fn enqueue(&mut self, t: TxnNo, name: LockName, mode: Mode)
+        requires idle { waiting (lock self.old) t ≡ None }
+        requires room { 0 < spare_of self.old t }
+        requires refused { IsRefused (lock self.old) (request t name mode) }
+        ensures ok { lock self.new ≡ apply (lock self.old) (Queued t name mode) }
+        ensures room { (u : TxnNo) → spare_of self.new u ≡ (if same_txn t u then spare_of self.old u - 1 else spare_of self.old u) }
+        ensures woken { woken_of self.new ≡ woken_of self.old }
+    {
+        let r = Request { txn: t, name, mode };
+        if owners::modes_of(&self.owners, t, name).is_held() {
+            self.queue_conversion(r);
+        } else {
+            self.queue_request(r);
+        }
+    }
+
+    fn queue_conversion(&mut self, r: Request)
+        requires idle { waiting (lock self.old) r.txn ≡ None }
+        requires room { 0 < spare_of self.old r.txn }
+        requires blocked { IsBlocked (lock self.old).grants (lock self.old).conversions r }
+        ensures ok { lock self.new ≡ record (lock self.old) { conversions = (lock self.old).conversions ++ r ∷ [] } }
+        ensures room { (u : TxnNo) → spare_of self.new u ≡ (if same_txn r.txn u then spare_of self.old u - 1 else spare_of self.old u) }
+        ensures woken { woken_of self.new ≡ woken_of self.old }
+    {
+        owners::wait(&mut self.owners, r.txn);
+        self.left -= 1;
+        self.conversions.push_reserved(r);
+    }
+
+    fn queue_request(&mut self, r: Request)
+        requires idle { waiting (lock self.old) r.txn ≡ None }
+        requires room { 0 < spare_of self.old r.txn }
+        requires blocked { IsBlocked (lock self.old).grants (queue (lock self.old)) r }
+        ensures ok { lock self.new ≡ record (lock self.old) { requests = (lock self.old).requests ++ r ∷ [] } }
+        ensures room { (u : TxnNo) → spare_of self.new u ≡ (if same_txn r.txn u then spare_of self.old u - 1 else spare_of self.old u) }
+        ensures woken { woken_of self.new ≡ woken_of self.old }
+    {
+        owners::wait(&mut self.owners, r.txn);
+        self.left -= 1;
+        self.requests.push_reserved(r);
+    }
+
+    /// Gives back all that a transaction has on a name, and grants what can be granted then.
+    pub fn release(&mut self, t: TxnNo, name: LockName)
+        requires idle { waiting (lock self.old) t ≡ None }
+        ensures ok { Gives self.old self.new (Released t name ∷ []) }
+        ensures settled { IsSettled (lock self.new) }
+        ensures room { (u : TxnNo) → spare_of self.new u ≡ spare_of self.old u }
+    {
+        owners::release(&mut self.owners, t, name);
+        serve_both(
+            &mut self.owners,
+            &mut self.conversions,
+            &mut self.requests,
+            &mut self.woken,
+        );
+    }
+
+    /// Gives back all that a transaction has and asks for, with its spare and its note as a victim, and grants what can be
+    /// granted then.
+    pub fn release_all(&mut self, t: TxnNo)
+        ensures ok { Gives self.old self.new (ReleasedAll t ∷ []) }
+        ensures settled { IsSettled (lock self.new) }
+        ensures room { (u : TxnNo) → spare_of self.new u ≡ (if same_txn t u then 0 else spare_of self.old u) }
+    {
+        let left = owners::left(&self.owners, t);
+        owners::remove(&mut self.owners, t);
+        self.left -= left as usize;
+        drop_requests(&mut self.conversions, t);
+        drop_requests(&mut self.requests, t);
+        serve_both(
+            &mut self.owners,
+            &mut self.conversions,
+            &mut self.requests,
+            &mut self.woken,
+        );
+    }
+
+    /// Adds a mode to what a transaction has.
+    fn grant(&mut self, r: Request)
+        requires idle { waiting (lock self.old) r.txn ≡ None }
+        requires room { (has_grant (lock self.old).grants r.txn r.name ≡ true) ⊎ (0 < spare_of self.old r.txn) }
+        ensures ok { lock self.new ≡ apply (lock self.old) (Granted r.txn r.name r.mode) }
+        ensures room { IsSpent self.old self.new r.txn (has_grant (lock self.old).grants r.txn r.name) }
+        ensures woken { woken_of self.new ≡ woken_of self.old }
+    {
+        let held = owners::modes_of(&self.owners, r.txn, r.name).is_held();
+        owners::grant(&mut self.owners, r);
+        self.left = less_one(self.left, held);
+    }
+}
+
+/// What is left after a grant, where a name that is held already costs nothing.
+fn less_one(left: usize, held: bool) -> usize
+    requires { (held ≡ true) ⊎ (0 < left) }
+    ensures exact { result ≡ (if held then left else left - 1) }
+{
+    if held { left } else { left - 1 }
+}

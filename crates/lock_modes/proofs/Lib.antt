@@ -1,0 +1,2 @@
+pub mod ModesLemmas
+pub mod NamesLemmas

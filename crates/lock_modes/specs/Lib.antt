@@ -1,0 +1,6 @@
+pub mod Modes
+pub mod Names
+pub mod Lock
+pub mod Waits
+pub mod Proper
+pub mod Serving
