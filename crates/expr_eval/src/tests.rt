@@ -1,7 +1,7 @@
 //! Expressions and aggregates, worked by hand.
 
 use crate::evaluation::eval;
-use crate::operator::{arithmetic, negated};
+use crate::operator::{arithmetic, comparison, negated};
 use crate::totals::aggregate;
 use dby_types::copies::copy_text;
 use dby_types::seq::Seq;
@@ -19,7 +19,10 @@ fn keeps_numbers_in_their_types(rt: HostRuntime) {
     let cases = [
         (Arithmetic::Add, Ty::Int, 2147483646, 1, Some(2147483647)),
         (Arithmetic::Add, Ty::Int, 2147483647, 1, None),
+        (Arithmetic::Add, Ty::Int, -2147483648, -1, None),
+        (Arithmetic::Add, Ty::Big, most, 0, Some(most)),
         (Arithmetic::Add, Ty::Big, most, 1, None),
+        (Arithmetic::Subtract, Ty::Big, least, 1, None),
         (Arithmetic::Subtract, Ty::Int, -2147483648, 1, None),
         (
             Arithmetic::Multiply,
@@ -29,6 +32,7 @@ fn keeps_numbers_in_their_types(rt: HostRuntime) {
             Some(2147395600),
         ),
         (Arithmetic::Multiply, Ty::Int, 65536, 32768, None),
+        (Arithmetic::Multiply, Ty::Big, least, 1, Some(least)),
         (Arithmetic::Multiply, Ty::Big, least, -1, None),
         (Arithmetic::Divide, Ty::Int, -7, 2, Some(-3)),
         (Arithmetic::Divide, Ty::Int, 7, -2, Some(-3)),
@@ -51,6 +55,30 @@ fn keeps_numbers_in_their_types(rt: HostRuntime) {
         negated(Ty::Int, &Value::Num(5)),
         Evaluated::Value(Value::Num(-5))
     );
+    let too_great = Evaluated::Sql(SqlState::OutOfRange);
+    assert_eq!(rt; negated(Ty::Int, &Value::Num(-2147483648)), too_great);
+    assert_eq!(rt; negated(Ty::Big, &Value::Num(least)), too_great);
+}
+
+/// Each comparison of 1 with 2, of 1 with 1, of 2 with 1; and with NULL, which is unknown, as NULL = NULL is.
+#[test]
+fn compares_values(rt: HostRuntime) {
+    let (one, two, null) = (Value::Num(1), Value::Num(2), Value::Null);
+    let cases = [
+        (Comparison::Equal, false, true, false),
+        (Comparison::NotEqual, true, false, true),
+        (Comparison::Less, true, false, false),
+        (Comparison::LessEqual, true, true, false),
+        (Comparison::Greater, false, false, true),
+        (Comparison::GreaterEqual, false, true, true),
+    ];
+    for (op, below, same, above) in cases {
+        assert_eq!(rt; comparison(op, &one, &two), Value::Bool(below));
+        assert_eq!(rt; comparison(op, &one, &one), Value::Bool(same));
+        assert_eq!(rt; comparison(op, &two, &one), Value::Bool(above));
+        assert_eq!(rt; comparison(op, &one, &null), Value::Null);
+        assert_eq!(rt; comparison(op, &null, &null), Value::Null);
+    }
 }
 
 fn number(n: i64) -> Expr {
@@ -95,6 +123,25 @@ fn row_of(alloc: Global, value: Value) -> Result<Row, AllocError> {
     let mut row = Seq::new(alloc);
     row.push(value)?;
     Ok(row)
+}
+
+/// A column and 1, added 200 times: one level each.
+#[test]
+fn evaluates_deep_expressions(rt: HostRuntime) -> Result<(), Fail> {
+    let alloc = rt.alloc();
+    let row = row_of(alloc, Value::Num(5))?;
+    let mut deep = column();
+    for _ in 0..200 {
+        let a = Box::new(alloc, deep)?;
+        let b = Box::new(alloc, number(1))?;
+        deep = Expr {
+            node: Node::Arithmetic(Arithmetic::Add, a, b),
+            ty: Ty::Int,
+        };
+    }
+    let found = eval(alloc, &deep, &row)?;
+    assert_eq!(rt; found, Evaluated::Value(Value::Num(205)));
+    Ok(())
 }
 
 #[test]

@@ -1,12 +1,13 @@
 //! Values against each other, worked by hand.
 
-use crate::logic::{and, not, or};
-use crate::order::{compare, copy_trimmed, is_same};
+use crate::logic::{and, is_null, is_true, not, or};
+use crate::order::{compare, compared, copy_trimmed, is_same};
 use crate::storing::store;
 use dby_types::copies::copy_text;
 use dby_types::state::SqlState;
 use dby_types::value::{Ty, Value};
 use std::alloc::{AllocError, Global};
+use std::cmp::Ordering;
 use std::test::Fail;
 
 fn text(alloc: Global, spelled: &str) -> Result<Value, AllocError> {
@@ -33,11 +34,37 @@ fn orders_values(rt: HostRuntime) -> Result<(), Fail> {
             assert_eq!(rt; compare(a, b), i.cmp(&j), "{i} {j}");
         }
     }
-    assert!(rt; is_same(&text(alloc, "a")?, &text(alloc, "a  ")?));
     assert_eq!(rt;
         copy_trimmed(alloc, &text(alloc, " a  ")?)?,
         text(alloc, " a")?
     );
+    Ok(())
+}
+
+/// Texts against each other where blanks don't count, among bytes below the blank and characters of several bytes.
+#[test]
+fn pads_texts(rt: HostRuntime) -> Result<(), Fail> {
+    let alloc = rt.alloc();
+    let cases = [
+        ("", "   ", Ordering::Equal),
+        ("a", "a  ", Ordering::Equal),
+        ("é", "é ", Ordering::Equal),
+        ("a\n", "a\n ", Ordering::Equal),
+        ("a \n", "a", Ordering::Less),
+        ("\u{1f}", "", Ordering::Less),
+        ("€\t", "€ ", Ordering::Less),
+        ("aé", "a", Ordering::Greater),
+        ("a  !", "a", Ordering::Greater),
+    ];
+    for (a, b, want) in cases {
+        let (x, y) = (text(alloc, a)?, text(alloc, b)?);
+        assert_eq!(rt; compare(&x, &y), want, "{a} {b}");
+        assert_eq!(rt; compared(&x, &y), Some(want), "{a} {b}");
+        assert_eq!(rt; is_same(&x, &y), want.is_eq(), "{a} {b}");
+        assert_eq!(rt; compared(&x, &Value::Null), None, "{a}");
+    }
+    assert!(rt; is_same(&Value::Null, &Value::Null));
+    assert_eq!(rt; compared(&Value::Null, &Value::Null), None);
     Ok(())
 }
 
@@ -60,6 +87,15 @@ fn knows_what_is_unknown(rt: HostRuntime) {
     }
     assert_eq!(rt; not(&Value::Null), Value::Null);
     assert_eq!(rt; not(&Value::Bool(true)), Value::Bool(false));
+    assert_eq!(rt; not(&Value::Bool(false)), Value::Bool(true));
+    for (value, null, holds) in [
+        (Some(true), false, true),
+        (Some(false), false, false),
+        (None, true, false),
+    ] {
+        assert_eq!(rt; is_null(&truth(value)), null);
+        assert_eq!(rt; is_true(&truth(value)), holds);
+    }
 }
 
 fn truth(value: Option<bool>) -> Value {
@@ -95,6 +131,14 @@ fn stores_values(rt: HostRuntime) -> Result<(), Fail> {
     assert_eq!(rt;
         store(Ty::Int, Value::Num(2147483648)),
         Err(SqlState::OutOfRange)
+    );
+    assert_eq!(rt;
+        store(Ty::Int, Value::Num(3000000000)),
+        Err(SqlState::OutOfRange)
+    );
+    assert_eq!(rt;
+        store(Ty::Int, text(alloc, "x")?),
+        Err(SqlState::NotStorable)
     );
     assert_eq!(rt;
         store(Ty::Big, Value::Bool(true)),
