@@ -9,15 +9,12 @@ use crate::ending::Ending;
 use crate::printing::print_run;
 use crate::reading::{FileRead, read_whole};
 use crate::words::is_form;
+use dby_types::number::Damage;
 use dby_types::seq::Seq;
 use derby_engine::engine::run_script;
 use device::{Host, Sink, Source};
 use journal_model::journal::Journal;
 use std::alloc::Global;
-
-/// No damage is told of in memory.
-#[derive(Clone, Copy, Debug, PartialEq, Eq)]
-pub struct Damage;
 
 /// What a run leaves: its status, the scripts' sources, the journal where the engine opened, and where a database was opened, its disk, and what stopped it.
 #[derive(Drop)]
