@@ -7,7 +7,7 @@ use Rattle.device.specs.Streams.{SourceSeen, SinkSeen, HostSeen}
 use Rattle.journal_model.specs.declared.journal.Entry.{Entry}
 use Rattle.journal_model.specs.declared.journal.Journal.{Journal}
 use Rattle.journal_model.specs.Legal.{IsLegal}
-use Rattle.journal_model.specs.Tables.{no_tables}
+use Rattle.table_model.specs.Tables.{no_tables}
 use Rattle.journal_model.specs.Text.{line, text_of}
 use Rattle.journal_text.specs.Printing.{TookAll, TookFront}
 use Rattle.derby_engine.specs.Engine.{HasRun}

@@ -7,7 +7,7 @@ use Rattle.dby_types.specs.declared.number.RowId.{RowId}
 use Rattle.dby_types.specs.declared.value.Ty.{Ty}
 use Rattle.dby_types.specs.declared.value.Ty.TheVariants as ty
 use Rattle.dby_types.specs.declared.value.Value.{Value}
-use Rattle.journal_model.specs.Tables.{Tables, Each}
+use Rattle.table_model.specs.Tables.{Tables, Each}
 use Rattle.journal_model.specs.Catalog.{kind_of, size_of, table_row, column_row, column_rows, IsOf, HasColumns, Defines, NoTable}
 use Rattle.derby_engine.specs.declared.dictionary.Defined.{Defined}
 use Rattle.derby_engine.specs.Heaps.{rid_at, tables_of}

@@ -9,13 +9,13 @@ use Rattle.sql_forms.specs.declared.form.Form.TheVariants as form
 use Rattle.sql_forms.specs.Forms.{form_of}
 use Rattle.journal_model.specs.declared.journal.Entry.{Entry}
 use Rattle.journal_model.specs.declared.journal.Entry.TheVariants.{Answered, Committed, Acknowledged}
-use Rattle.journal_model.specs.Tables.{Tables, Made, Each, no_tables, laid_over}
+use Rattle.table_model.specs.Tables.{Tables, Made, Each, no_tables, laid_over}
 use Rattle.journal_model.specs.World.{opening, replay, given_by}
 use Rattle.journal_model.specs.Catalog.{table_row, column_rows}
 use Rattle.journal_model.specs.Meaning.{Passes, PassesForm}
 use Rattle.journal_model.specs.Legal.{view, Wrote, written, Owes, AnswersCreate, AnswerMeets, CommitsFit, row_put}
 use Rattle.journal_model.specs.Writing.{IsJournal, IsRun}
-use Rattle.journal_model.proofs.BaseLemmas.{each_append}
+use Rattle.table_model.proofs.TablesLemmas.{each_append}
 use Rattle.journal_model.proofs.WritingLemmas.{answers}
 use Rattle.derby_engine.specs.Carried.{started, dids}
 use Rattle.derby_engine.specs.Dictionary.{Named, Among, AreNumbered, lists_of, all_table_rows, all_column_rows, IsDictionary}

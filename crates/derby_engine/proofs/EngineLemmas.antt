@@ -11,7 +11,7 @@ use Rattle.sql_lexer.specs.Order.{AreInOrder}
 use Rattle.sql_lexer.specs.Splitting.{bytes_of, spans_of, statements_of}
 use Rattle.journal_model.specs.declared.journal.Entry.{Entry}
 use Rattle.journal_model.specs.declared.journal.Refusal.TheVariants.{Sql, Memory}
-use Rattle.journal_model.specs.Tables.{Each, no_tables}
+use Rattle.table_model.specs.Tables.{Each, no_tables}
 use Rattle.journal_model.specs.Legal.{IsLegal, IsOwed, statement_of, CommitsFit}
 use Rattle.journal_model.specs.World.{opening, world_at}
 use Rattle.journal_model.specs.Writing.{IsCalm}

@@ -5,7 +5,7 @@ use Rattle.std.proofs.lemmas.Bool.Decides.{nat_tests}
 use Rattle.std.proofs.lemmas.Bool.{cases_eq, cases_lt}
 use Rattle.dby_types.specs.declared.number.RowId.{RowId}
 use Rattle.dby_types.specs.declared.value.Value.{Value}
-use Rattle.journal_model.specs.Tables.{Tables, is_same_rid, put}
+use Rattle.table_model.specs.Tables.{Tables, is_same_rid, put}
 use Rattle.journal_model.specs.Catalog.{column_rows}
 use Rattle.derby_engine.specs.Dictionary.{Named, all_table_rows, all_column_rows, lists_of}
 use Rattle.derby_engine.specs.Heaps.{rid_at, row_at, rows_in, tables_of, by_number, no_rows}

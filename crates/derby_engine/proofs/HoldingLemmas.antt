@@ -12,7 +12,7 @@ use Rattle.sql_forms.specs.Forms.{form_of}
 use Rattle.journal_model.specs.declared.journal.Entry.{Entry}
 use Rattle.journal_model.specs.declared.journal.Entry.TheVariants.{Answered, Refused, Committed, Acknowledged, RolledBack}
 use Rattle.journal_model.specs.declared.journal.Refusal.{Refusal}
-use Rattle.journal_model.specs.Tables.{Tables, Made, no_tables, laid_over}
+use Rattle.table_model.specs.Tables.{Tables, Made, no_tables, laid_over}
 use Rattle.journal_model.specs.World.{World, opening, replay}
 use Rattle.journal_model.specs.Meaning.{is_long, Passes, PassesForm}
 use Rattle.journal_model.specs.Catalog.{Defines}

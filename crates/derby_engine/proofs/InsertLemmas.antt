@@ -9,7 +9,7 @@ use Rattle.sql_forms.specs.declared.form.Form.{Form}
 use Rattle.sql_forms.specs.Forms.{form_of}
 use Rattle.journal_model.specs.declared.journal.Entry.{Entry}
 use Rattle.journal_model.specs.declared.journal.Entry.TheVariants.{Answered, Committed, Acknowledged}
-use Rattle.journal_model.specs.Tables.{Tables, no_tables, laid_over}
+use Rattle.table_model.specs.Tables.{Tables, no_tables, laid_over}
 use Rattle.journal_model.specs.World.{opening, replay}
 use Rattle.journal_model.specs.Catalog.{Defines, FitsColumns}
 use Rattle.journal_model.specs.Meaning.{Passes, PassesForm, Suits}

@@ -11,7 +11,7 @@ use Rattle.sql_forms.specs.declared.form.Form.TheVariants.{CreateTable, Insert, 
 use Rattle.sql_forms.specs.Forms.{form_of}
 use Rattle.journal_model.specs.declared.journal.Refusal.{Refusal}
 use Rattle.journal_model.specs.declared.journal.Refusal.TheVariants.{Sql, Memory}
-use Rattle.journal_model.specs.Tables.{Tables}
+use Rattle.table_model.specs.Tables.{Tables}
 use Rattle.journal_model.specs.Catalog.{FitsColumns, suits, has_null}
 use Rattle.journal_model.specs.Meaning.{is_long, Names, Misfits, Suits, RefusedForm, RefusedIf, IsRefused, PassesForm, NullIn, all_suit, some_null}
 use Rattle.journal_model.specs.Legal.{HasEvidence, CommitsFit}

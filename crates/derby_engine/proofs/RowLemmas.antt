@@ -5,9 +5,9 @@ use Rattle.std.proofs.lemmas.Bool.Decides.{nat_tests}
 use Rattle.dby_types.specs.declared.answer.Component.{Component}
 use Rattle.dby_types.specs.declared.number.RowId.{RowId}
 use Rattle.dby_types.specs.declared.value.Value.{Value}
-use Rattle.journal_model.specs.Tables.{Tables, is_same_rid, Each}
+use Rattle.table_model.specs.Tables.{Tables, is_same_rid, Each}
 use Rattle.journal_model.specs.Levels.{meets, rows_at, with_row, row_of, has_ids, times, Stood, Moved, ReadsCommitted}
-use Rattle.journal_model.proofs.BaseLemmas.{each_map}
+use Rattle.table_model.proofs.TablesLemmas.{each_map}
 use Rattle.derby_engine.specs.Dictionary.{Among}
 use Rattle.derby_engine.specs.Heaps.{rid_at, row_at, scanned}
 

@@ -9,7 +9,7 @@ use Rattle.dby_types.specs.declared.number.TxnNo.{TxnNo}
 use Rattle.dby_types.specs.declared.value.Value.{Value}
 use Rattle.journal_model.specs.declared.journal.Entry.{Entry}
 use Rattle.journal_model.specs.declared.journal.Entry.TheVariants.{Did}
-use Rattle.journal_model.specs.Tables.{Tables, Made, Each, no_tables, laid_over}
+use Rattle.table_model.specs.Tables.{Tables, Made, Each, no_tables, laid_over}
 use Rattle.journal_model.specs.World.{given_by, numbers_of}
 use Rattle.journal_model.specs.Catalog.{Defines}
 use Rattle.journal_model.specs.Writing.{IsRun}

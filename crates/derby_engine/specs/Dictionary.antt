@@ -2,7 +2,7 @@
 use Rattle.std.specs.Prelude.{◌≡◌, ◌+◌, ◌≤◌, ◌^◌, ℕ, List, [], ◌∷◌, length, map, ◌++◌, ◌⊎◌}
 use Rattle.dby_types.specs.declared.value.Value.{Value}
 use Rattle.journal_model.specs.Catalog.{table_row, column_rows}
-use Rattle.journal_model.specs.Tables.{Each}
+use Rattle.table_model.specs.Tables.{Each}
 use Rattle.derby_engine.specs.declared.dictionary.Defined.{Defined}
 use Rattle.derby_engine.specs.Heaps.{by_number}
 

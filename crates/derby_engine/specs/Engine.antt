@@ -7,7 +7,7 @@ use Rattle.sql_lexer.specs.Splitting.{statements_of}
 use Rattle.journal_model.specs.declared.journal.Entry.{Entry}
 use Rattle.journal_model.specs.declared.journal.Refusal.TheVariants.{Sql}
 use Rattle.journal_model.specs.Meaning.{is_long}
-use Rattle.journal_model.specs.Tables.{no_tables}
+use Rattle.table_model.specs.Tables.{no_tables}
 use Rattle.journal_model.specs.World.{opening, replay}
 use Rattle.journal_model.specs.Writing.{IsJournal, conn_is}
 use Rattle.derby_engine.specs.declared.prepared.Prepared.{Prepared}

@@ -3,7 +3,7 @@ use Rattle.std.specs.Prelude.{◌+◌, ◌/◌, ◌%◌, ℕ, List, [], ◌∷�
 use Rattle.dby_types.specs.declared.answer.Component.{Component}
 use Rattle.dby_types.specs.declared.number.RowId.{RowId}
 use Rattle.dby_types.specs.declared.value.Value.{Value}
-use Rattle.journal_model.specs.Tables.{Tables, is_same_rid}
+use Rattle.table_model.specs.Tables.{Tables, is_same_rid}
 use Rattle.derby_engine.specs.declared.heap.Heap.{Heap}
 
 -- the row id of the row that was put n-th, from 0

@@ -5,7 +5,7 @@ ghost use Rattle.std.specs.Bool.{OnTrue, OnFalse};
 ghost use Rattle.sql_lexer.specs.Splitting.{bytes_of};
 ghost use Rattle.journal_model.specs.Legal.{IsLegal, statement_of};
 ghost use Rattle.journal_model.specs.Meaning.{is_long};
-ghost use Rattle.journal_model.specs.Tables.{no_tables};
+ghost use Rattle.table_model.specs.Tables.{no_tables};
 ghost use Rattle.derby_engine.specs.Dictionary.{IsDictionary};
 ghost use Rattle.derby_engine.specs.Engine.{Holds, Runs, HasRun};
 ghost use Rattle.derby_engine.specs.Heaps.{rows_of};

@@ -6,7 +6,8 @@ use Rattle.std.proofs.lemmas.Bool.Decides.{nat_tests}
 use Rattle.std.proofs.lemmas.Bool.{both_ways, cases_eq}
 use Rattle.journal_model.specs.declared.journal.Entry.{Entry}
 use Rattle.journal_model.specs.declared.journal.Entry.TheVariants.{Started, Did, Undone, Answered, Refused, Committed, Acknowledged, RolledBack}
-use Rattle.journal_model.specs.Tables.{Tables, Each}
+use Rattle.table_model.specs.Tables.{Tables, Each}
+use Rattle.table_model.proofs.TablesLemmas.{each_map}
 use Rattle.journal_model.specs.World.{World, Txn, Pin, at_number, apply, replay, opening, world_at, is_ended}
 
 pub at_same : {X : Type 0} → (f : ℕ → X) (t : ℕ) (x : X) → at_number f t x t ≡ x
@@ -25,13 +26,6 @@ at_each P f t x here others u = elim (cases_eq u t) [
   | inr ne ↦ subst P (sym (at_other f t x u ne)) (others u ne)
 ]
 
-pub each_map : {X : Type 0} → (P Q : X → Type 0) → ((x : X) → P x → Q x) → (xs : List X) → Each P xs → Each Q xs
-each_map P Q f [] h = tt
-each_map P Q f (x ∷ xs) h = (f x h.0, each_map P Q f xs h.1)
-
-pub each_append : {X : Type 0} → (P : X → Type 0) → (xs ys : List X) → Each P xs → Each P ys → Each P (xs ++ ys)
-each_append P [] ys h k = k
-each_append P (x ∷ xs) ys h k = (h.0, each_append P xs ys h.1 k)
 
 pub replay_push : (w : World) (es : List Entry) (e : Entry) → replay w (es ++ e ∷ []) ≡ apply (replay w es) e
 replay_push w [] e = refl

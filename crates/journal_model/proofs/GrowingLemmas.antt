@@ -4,11 +4,12 @@ use Rattle.std.proofs.Math.Seq.{take-length}
 use Rattle.std.proofs.lemmas.List.{get_or_push, get_or_append_left, take-append-le, take_all}
 use Rattle.std.proofs.lemmas.Bool.{both_ways, cases_lt}
 use Rattle.journal_model.specs.declared.journal.Entry.{Entry}
-use Rattle.journal_model.specs.Tables.{Tables}
+use Rattle.table_model.specs.Tables.{Tables}
 use Rattle.journal_model.specs.World.{World, opening, apply, replay, world_at, is_ended}
 use Rattle.journal_model.specs.Legal.{EntryHolds, AnswersHold, IsOwed, IsLegal, PinHolds, CommitsFit}
 use Rattle.journal_model.specs.Writing.{AreEnded}
-use Rattle.journal_model.proofs.BaseLemmas.{replay_push, world_end, world_before, each_map}
+use Rattle.journal_model.proofs.BaseLemmas.{replay_push, world_end, world_before}
+use Rattle.table_model.proofs.TablesLemmas.{each_map}
 
 pub legal_entry : (f : Tables) (scripts : List (List ℕ)) (es : List Entry) (e : Entry)
     → IsLegal f scripts es → EntryHolds scripts (replay (opening f) es) e → AnswersHold f es e → IsOwed (apply (replay (opening f) es) e)

@@ -17,13 +17,14 @@ use Rattle.sql_forms.specs.Forms.{form_of}
 use Rattle.journal_model.specs.declared.journal.Entry.{Entry}
 use Rattle.journal_model.specs.declared.journal.Entry.TheVariants.{Started, Did, Answered, Refused, Committed, Acknowledged, RolledBack}
 use Rattle.journal_model.specs.declared.journal.Refusal.{Refusal}
-use Rattle.journal_model.specs.Tables.{Tables, Change, Made, Each, put, laid_over}
+use Rattle.table_model.specs.Tables.{Tables, Change, Made, Each, put, laid_over}
 use Rattle.journal_model.specs.World.{World, Txn, Conn, Stage, leaving, committing, settled, Told, said, denied, opening, apply, replay, is_ended, is_untold, is_returnable, is_leaving, after_answered, after_refused, given_by, seen}
 use Rattle.journal_model.specs.Catalog.{Defines}
 use Rattle.journal_model.specs.Meaning.{Passes}
 use Rattle.journal_model.specs.Legal.{IsLegal, IsOwed, CommitsFit, Begins, statement_of, Stays, PinHolds, HasEvidence, AnswerMeets, IsFree}
 use Rattle.journal_model.specs.Writing.{conn_is, HasNone, AreEnded, IsCalm, IsRunning, IsJournal, IsRun}
-use Rattle.journal_model.proofs.BaseLemmas.{at_same, at_is, at_other, at_each, each_map, each_append, replay_push, count_is, ended_kept, ended_over}
+use Rattle.journal_model.proofs.BaseLemmas.{at_same, at_is, at_other, at_each, replay_push, count_is, ended_kept, ended_over}
+use Rattle.table_model.proofs.TablesLemmas.{each_map, each_append}
 use Rattle.journal_model.proofs.GrowingLemmas.{legal_entry, owed_ended}
 
 abbrev now : Tables → List Entry → World

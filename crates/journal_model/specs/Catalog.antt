@@ -7,7 +7,7 @@ use Rattle.dby_types.specs.declared.value.Ty.{Ty}
 use Rattle.dby_types.specs.declared.value.Ty.TheVariants as ty
 use Rattle.dby_types.specs.declared.value.Value.{Value}
 use Rattle.dby_types.specs.declared.value.Value.TheVariants.{Null, Num, Bool as Truth, Text}
-use Rattle.journal_model.specs.Tables.{Tables}
+use Rattle.table_model.specs.Tables.{Tables}
 
 -- a type in a column's row: its kind
 abbrev pub kind_of : Ty → ℕ

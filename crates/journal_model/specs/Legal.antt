@@ -19,7 +19,7 @@ use Rattle.journal_model.specs.declared.journal.Entry.{Entry}
 use Rattle.journal_model.specs.declared.journal.Entry.TheVariants.{Started, Did, Undone, Answered, Refused, Committed, Acknowledged, RolledBack}
 use Rattle.journal_model.specs.declared.journal.Refusal.{Refusal}
 use Rattle.journal_model.specs.declared.journal.Refusal.TheVariants.{Sql, Memory}
-use Rattle.journal_model.specs.Tables.{Tables, Made, Each, laid_over}
+use Rattle.table_model.specs.Tables.{Tables, Made, Each, laid_over}
 use Rattle.journal_model.specs.World.{World, running, resting, committing, settled, Told, said, Pin, opening, replay, world_at, seen, seen_over, is_ended, is_returnable, is_untold, given_by}
 use Rattle.journal_model.specs.Catalog.{Defines, FitsColumns, table_row, column_rows}
 use Rattle.journal_model.specs.Meaning.{IsRefused, Passes, Names, Suits, NullIn, some_null}

@@ -4,7 +4,7 @@ use Rattle.dby_types.specs.declared.answer.Component.{Component}
 use Rattle.dby_types.specs.declared.number.RowId.{RowId}
 use Rattle.dby_types.specs.declared.state.SqlState.{SqlState}
 use Rattle.dby_types.specs.declared.value.Value.{Value}
-use Rattle.journal_model.specs.Tables.{Tables, is_same_rid, Each}
+use Rattle.table_model.specs.Tables.{Tables, is_same_rid, Each}
 
 -- what a condition says of a joined tuple
 pub data Verdict : Type 0 where

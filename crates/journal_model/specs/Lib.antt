@@ -1,4 +1,3 @@
-pub mod Tables
 pub mod World
 pub mod Catalog
 pub mod Meaning

@@ -9,7 +9,7 @@ use Rattle.dby_types.specs.declared.value.Value.{Value}
 use Rattle.sql_forms.specs.declared.form.Form.{Form}
 use Rattle.sql_forms.specs.declared.form.Form.TheVariants.{CreateTable, Insert, Select}
 use Rattle.sql_forms.specs.Forms.{form_of}
-use Rattle.journal_model.specs.Tables.{Tables}
+use Rattle.table_model.specs.Tables.{Tables}
 use Rattle.journal_model.specs.Catalog.{Defines, NoTable, suits, has_null}
 
 -- the text has more bytes than a statement may have

@@ -10,7 +10,7 @@ use Rattle.sql_ast.specs.declared.statement.Statement.TheVariants.{Unread}
 use Rattle.journal_model.specs.declared.journal.Entry.{Entry}
 use Rattle.journal_model.specs.declared.journal.Entry.TheVariants.{Started, Did, Undone, Answered, Refused, Committed, Acknowledged, RolledBack}
 use Rattle.journal_model.specs.declared.journal.Refusal.{Refusal}
-use Rattle.journal_model.specs.Tables.{Tables, Made, put, laid_over, newest_undone, rest_of}
+use Rattle.table_model.specs.Tables.{Tables, Made, put, laid_over, newest_undone, rest_of}
 
 -- Where a transaction is in its life. It fixes which of its entries may come next.
 pub data Stage : Type 0 where

@@ -2,7 +2,7 @@
 use Rattle.std.specs.Prelude.{◌≡◌, ◌≢◌, ◌<◌, ℕ, List, [], Option, Some, None, true, false}
 use Rattle.dby_types.specs.declared.number.Level.TheVariants.{Cs}
 use Rattle.journal_model.specs.declared.journal.Entry.{Entry}
-use Rattle.journal_model.specs.Tables.{Tables, Made, Each, laid_over}
+use Rattle.table_model.specs.Tables.{Tables, Made, Each, laid_over}
 use Rattle.journal_model.specs.World.{World, Txn, Conn, Stage, unborn, running, Pin, opening, replay, is_ended}
 use Rattle.journal_model.specs.Legal.{IsLegal, CommitsFit}
 
