@@ -39,12 +39,14 @@ IsDescribed v table = v.content.columns table ≢ None
 abbrev pub IsOpen : View → ℕ → Type 0
 IsOpen v t = v.content.changes t ≢ None
 
--- a search is in a table that was described, and so is what room is made for
+-- a search is in a table that was described, and so is what room is made for; no tree is described yet
 abbrev pub MayReach : View → Target → Type 0
 MayReach v (target.Heap table after) = IsDescribed v table
+MayReach v (target.Tree index bound) = ⊥
 
 abbrev pub MayMakeRoom : View → Room → Type 0
 MayMakeRoom v (room.Heap table) = IsDescribed v table
+MayMakeRoom v (room.Entry index key) = ⊥
 
 -- the actor's place is at a row
 pub record IsAtRow (v : View) (a : ℕ) : Type 0 where
@@ -101,6 +103,7 @@ Reaches a table after old new (Held b) = IsHeld a b table old new
 
 abbrev pub ReachesTarget : ℕ → Target → View → View → Moved → Type 0
 ReachesTarget a (target.Heap table after) old new m = Reaches a table after old new m
+ReachesTarget a (target.Tree index bound) old new m = ⊥
 
 -- the same, from the row at which the actor is
 abbrev pub Moves : ℕ → ℕ → RowId → View → View → Moved → Type 0
@@ -134,6 +137,7 @@ MakesRoom a table old new (Held b) = IsHeld a b table old new
 
 abbrev pub MakesRoomFor : ℕ → Room → View → View → Moved → Type 0
 MakesRoomFor a (room.Heap table) old new m = MakesRoom a table old new m
+MakesRoomFor a (room.Entry index key) old new m = ⊥
 
 -- CHANGES. What is stored once an item is added to a transaction's list
 abbrev pub with_item : Content → ℕ → Item → Content

@@ -64,14 +64,14 @@ pub record ShowsDamage (damage : Damage) (old new : View) : Type 0 where
 -- the call did nothing at all
 pub record IsUnchanged (old new : View) : Type 0 where
   pub keeps_none : old.meters.keeps ≡ None
-  pub data_same : new.content ≡ old.content
+  pub content_same : new.content ≡ old.content
   pub everyone : (b : ℕ) → new.actors b ≡ old.actors b
   pub meters_same : new.meters ≡ old.meters
 
 -- the call did nothing but count its answer
 pub record OnlyCounts (state : SqlState) (old new : View) : Type 0 where
   pub keeps_none : old.meters.keeps ≡ None
-  pub data_same : new.content ≡ old.content
+  pub content_same : new.content ≡ old.content
   pub everyone : (b : ℕ) → new.actors b ≡ old.actors b
   pub counted : Spends state old.meters new.meters
 

@@ -1,6 +1,7 @@
 //! Who holds places of a store, and where they are.
 
 use dby_types::number::RowId;
+use dby_types::value::Key;
 
 /// Who holds pages: 0 is the daemon, and c is connection c.
 pub type Actor = u32;
@@ -12,10 +13,18 @@ pub struct Place {
     pub at: Option<RowId>,
 }
 
-/// What is looked for: the first row behind a row id, or the first of all.
-#[derive(Clone, Copy, Debug, PartialEq, Eq)]
+/// A place in a tree: the greatest entry strictly below a key, or the greatest one not above it.
+#[derive(Debug, Drop)]
+pub enum Bound {
+    Below(Key),
+    UpTo(Key),
+}
+
+/// What is looked for: the first row of a heap behind a row id, or the first of all; or an entry of a tree. No store has trees yet.
+#[derive(Debug, Drop)]
 pub enum Target {
     Heap { table: u32, after: Option<RowId> },
+    Tree { index: u32, bound: Bound },
 }
 
 /// What stands at the place that an actor holds: a row, live or marked as deleted, or nothing, behind the last row.
@@ -25,8 +34,9 @@ pub enum At {
     End,
 }
 
-/// What room is made for: a row that is to be put.
-#[derive(Clone, Copy, Debug, PartialEq, Eq)]
+/// What room is made for: a row that is to be put, or an entry of a tree. No store has trees yet.
+#[derive(Debug, Drop)]
 pub enum Room {
     Heap { table: u32 },
+    Entry { index: u32, key: Key },
 }
