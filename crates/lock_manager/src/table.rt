@@ -1,13 +1,14 @@
 //! The lock table: who has which locks, and who waits.
 
-ghost use Rattle.std.specs.Prelude.{◌≡◌, ◌⊎◌, ◌≤◌, ◌<◌, ◌+◌, ◌-◌, ◌&&◌, ◌||◌, ℕ, true, false, not, [], ◌∷◌, ◌++◌, Some, None, IsSome, OnOk, OnErr, if◌then◌else◌, MatchOption, IsTrue, ◌↔◌, is_ok};
+ghost use Rattle.std.specs.Prelude.{◌≡◌, ◌⊎◌, ◌≤◌, ◌<◌, ◌+◌, ◌-◌, ◌&&◌, ◌||◌, ℕ, true, false, not, [], ◌∷◌, ◌++◌, Some, None, IsSome, OnOk, OnErr, if◌then◌else◌, MatchOption, IsTrue, ◌↔◌, is_ok, length};
 ghost use Rattle.dby_types.specs.declared.number.TxnNo.{TxnNo};
 ghost use Rattle.lock_modes.specs.Names.{same_txn};
 ghost use Rattle.lock_modes.specs.Lock.{no_locks, apply, request, has_grant, queue};
 ghost use Rattle.lock_modes.specs.Waits.{waiting, IsSettled, IsBlocked, AllBlocked};
-ghost use Rattle.lock_modes.specs.Proper.{IsRefused};
+ghost use Rattle.lock_modes.specs.Proper.{IsRefused, MayHave};
+ghost use Rattle.lock_modes.specs.Apart.{IsApart};
 ghost use Rattle.lock_modes.specs.declared.event.LockEvent.TheVariants.{Granted, Queued, Released, ReleasedAll, Chosen};
-ghost use Rattle.lock_manager.specs.Room.{HasRoom, Waiters-prop, AllBlocked-prop};
+ghost use Rattle.lock_manager.specs.Room.{HasRoom, Waiters-prop, AllBlocked-prop, IsApart-prop};
 ghost use Rattle.lock_manager.specs.Owners.{left_sum, waits_in, grants_in};
 ghost use Rattle.lock_manager.specs.Serve.{Waiters, is_among};
 
@@ -36,6 +37,7 @@ pub struct LockTable {
     ghost waiters: { Waiters owners.entries (conversions.items ++ requests.items) } by { Waiters-prop _ _ },
     ghost only: { (t : TxnNo) → waits_in owners.entries t ≡ is_among t (conversions.items ++ requests.items) },
     ghost settled: { AllBlocked (grants_in owners.entries) [] (conversions.items ++ requests.items) } by { AllBlocked-prop _ _ _ },
+    ghost apart: { IsApart (grants_in owners.entries) } by { IsApart-prop _ },
 }
 
 impl LockTable {
@@ -55,6 +57,20 @@ impl LockTable {
             requests: Vec::new(alloc),
             woken: VecDeque::new(alloc),
         }
+    }
+
+    /// What holds of every table: grants of two transactions on one name never conflict, and no request that could be granted
+    /// waits. The call does nothing.
+    pub fn laws(&self)
+        ensures apart { IsApart (lock self.now).grants }
+        ensures settled { IsSettled (lock self.now) }
+    {}
+
+    /// How many requests wait.
+    pub fn waiters(&self) -> usize
+        ensures exact { result ≡ length (queue (lock self.now)) }
+    {
+        self.conversions.len() + self.requests.len()
     }
 
     /// Whether a transaction was chosen as a victim.
@@ -262,6 +278,7 @@ impl LockTable {
     /// Adds a mode to what a transaction has.
     fn grant(&mut self, r: Request)
         requires idle { waiting (lock self.old) r.txn ≡ None }
+        requires may { MayHave (lock self.old) r }
         requires room { (has_grant (lock self.old).grants r.txn r.name ≡ true) ⊎ (0 < spare_of self.old r.txn) }
         ensures ok { lock self.new ≡ apply (lock self.old) (Granted r.txn r.name r.mode) }
         ensures room { IsSpent self.old self.new r.txn (has_grant (lock self.old).grants r.txn r.name) }

@@ -1,2 +1,4 @@
 pub mod ModesLemmas
 pub mod NamesLemmas
+pub mod TablesLemmas
+pub mod ApartLemmas

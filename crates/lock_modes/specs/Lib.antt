@@ -4,3 +4,4 @@ pub mod Lock
 pub mod Waits
 pub mod Proper
 pub mod Serving
+pub mod Apart
