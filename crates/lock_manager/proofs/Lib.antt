@@ -5,3 +5,6 @@ pub mod ServeLemmas
 pub mod BlockedLemmas
 pub mod TableLemmas
 pub mod BothLemmas
+pub mod TalliesLemmas
+pub mod NumberLemmas
+pub mod BlockingLemmas

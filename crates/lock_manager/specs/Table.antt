@@ -7,9 +7,9 @@ use Rattle.lock_modes.specs.Lock.{Lock, queue, apply_all}
 use Rattle.std.specs.List.{list_any}
 use Rattle.lock_modes.specs.declared.mode.Mode.{Mode}
 use Rattle.lock_modes.specs.declared.name.LockName.{LockName}
-use Rattle.lock_modes.specs.Modes.{hinders, is_covered}
+use Rattle.lock_modes.specs.Modes.{hinders, is_covered, writes, is_ranged}
 use Rattle.lock_manager.specs.Serve.{contests}
-use Rattle.lock_modes.specs.Names.{same_txn}
+use Rattle.lock_modes.specs.Names.{same_txn, is_row_name}
 use Rattle.lock_modes.specs.Proper.{IsRefused, MayHave}
 use Rattle.lock_modes.specs.Serving.{Serves, grants_of}
 use Rattle.lock_modes.specs.Waits.{earlier, blocks}
@@ -59,3 +59,11 @@ IsSpent old new t held = (u : TxnNo) → spare_of new u ≡ (if same_txn t u && 
 pub record IsUncontested (l : Lock) (n : LockName) (m : Mode) : Type 0 where
   pub granted : (h : TxnNo) → hinders (l.grants h n) m ≡ false
   pub queued : list_any (contests n m) (queue l) ≡ false
+
+-- a transaction has a mode of one who changes on a row name of a table
+abbrev pub WritesIn : Lock → TxnNo → ℕ → Type 0
+WritesIn l t table = (n : LockName) × (is_row_name table n ≡ true) × (writes (l.grants t n) ≡ true)
+
+-- a transaction has a mode that also holds the gap
+abbrev pub HoldsGap : Lock → TxnNo → Type 0
+HoldsGap l t = (n : LockName) × (is_ranged (l.grants t n) ≡ true)

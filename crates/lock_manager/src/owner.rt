@@ -22,6 +22,7 @@ pub struct Owner {
     pub victim: bool,
     pub holdings: Holdings,
     ghost room: { left + (if waits then 1 else 0) ≤ spare holdings.modes },
+    ghost tables: { left + (if waits then 1 else 0) ≤ spare holdings.tallies.tables },
 }
 
 impl Owner {

@@ -2,9 +2,9 @@
 
 ghost use Rattle.std.specs.Prelude.{◌≡◌, ◌⊎◌, ◌≤◌, ◌<◌, ◌+◌, ◌-◌, ◌&&◌, ◌||◌, ℕ, true, false, not, [], ◌∷◌, ◌++◌, Some, None, IsSome, OnOk, OnErr, if◌then◌else◌, MatchOption, IsTrue, ◌↔◌, is_ok, length};
 ghost use Rattle.dby_types.specs.declared.number.TxnNo.{TxnNo};
-ghost use Rattle.lock_modes.specs.Names.{same_txn};
+ghost use Rattle.lock_modes.specs.Names.{same_txn, is_row_name};
 ghost use Rattle.lock_modes.specs.Lock.{no_locks, apply, request, has_grant, queue};
-ghost use Rattle.lock_modes.specs.Waits.{waiting, IsSettled, IsBlocked, AllBlocked};
+ghost use Rattle.lock_modes.specs.Waits.{waiting, IsSettled, IsBlocked, AllBlocked, IsNumber};
 ghost use Rattle.lock_modes.specs.Proper.{IsRefused, MayHave};
 ghost use Rattle.lock_modes.specs.Apart.{IsApart};
 ghost use Rattle.lock_modes.specs.declared.event.LockEvent.TheVariants.{Granted, Queued, Released, ReleasedAll, Chosen};
@@ -12,10 +12,12 @@ ghost use Rattle.lock_manager.specs.Room.{HasRoom, Waiters-prop, AllBlocked-prop
 ghost use Rattle.lock_manager.specs.Owners.{left_sum, waits_in, grants_in};
 ghost use Rattle.lock_manager.specs.Serve.{Waiters, is_among};
 
+use crate::blocking::{least_blocker, request_of};
 use crate::owners::{self, Owners};
 use crate::queue::{drop_requests, in_way, is_contested, make_room, serve_both, waits};
 use crate::tried::Tried;
 use dby_types::number::TxnNo;
+use lock_modes::cycle::Edge;
 use lock_modes::entry::Request;
 use lock_modes::mode::Mode;
 use lock_modes::name::LockName;
@@ -41,7 +43,8 @@ pub struct LockTable {
 }
 
 impl LockTable {
-    ghost use Rattle.lock_manager.specs.Table.{lock, spare_of, woken_of, IsCause, IsHindrance, IsSpent, IsUncontested, Gives};
+    ghost use Rattle.lock_manager.specs.Blocking.{IsBlocker, IsUnblocked};
+    ghost use Rattle.lock_manager.specs.Table.{lock, spare_of, woken_of, IsCause, IsHindrance, IsSpent, IsUncontested, Gives, WritesIn, HoldsGap};
 
     /// A table without locks.
     pub fn new(alloc: Global) -> LockTable
@@ -71,6 +74,55 @@ impl LockTable {
         ensures exact { result ≡ length (queue (lock self.now)) }
     {
         self.conversions.len() + self.requests.len()
+    }
+
+    /// The edge from a transaction to the least one, above a given number, for which it waits.
+    pub fn blocker(&self, t: TxnNo, above: Option<TxnNo>) -> Option<Edge>
+        ensures edge { MatchOption result (IsUnblocked (lock self.now) t above) (λ e. IsBlocker (lock self.now) t above e) }
+    {
+        let Some(r) = request_of(&self.conversions, &self.requests, t) else {
+            return None;
+        };
+        let Some(holder) = least_blocker(&self.owners, &self.conversions, &self.requests, r, above)
+        else {
+            return None;
+        };
+        let locks = owners::count(&self.owners, t);
+        Some(Edge {
+            waiter: t,
+            holder,
+            name: r.name,
+            asked: r.mode,
+            locks,
+        })
+    }
+
+    /// On how many names a transaction has a grant.
+    pub fn count(&self, t: TxnNo) -> u64
+        ensures exact { IsNumber (λ n. has_grant (lock self.now).grants t n) result }
+    {
+        owners::count(&self.owners, t)
+    }
+
+    /// On how many rows and places before a first entry of a table a transaction has a grant.
+    pub fn row_count(&self, t: TxnNo, table: u32) -> u64
+        ensures exact { IsNumber (λ n. is_row_name table n && has_grant (lock self.now).grants t n) result }
+    {
+        owners::row_count(&self.owners, t, table)
+    }
+
+    /// Whether a transaction has a mode of one who changes on a row, or a place before a first entry, of a table.
+    pub fn writes(&self, t: TxnNo, table: u32) -> bool
+        ensures exact { IsTrue result ↔ WritesIn (lock self.now) t table }
+    {
+        owners::written_count(&self.owners, t, table) > 0
+    }
+
+    /// Whether a transaction has a mode that also holds the gap, on any name.
+    pub fn ranged(&self, t: TxnNo) -> bool
+        ensures exact { IsTrue result ↔ HoldsGap (lock self.now) t }
+    {
+        owners::ranged_count(&self.owners, t) > 0
     }
 
     /// Whether a transaction was chosen as a victim.

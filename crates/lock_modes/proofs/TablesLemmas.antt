@@ -1,11 +1,11 @@
 -- The two tables of modes, and sets of modes, element by element.
-use Rattle.std.proofs.Common.{◌≡◌, ◌⊎◌, Bool, true, false, refl, List, [], ◌∷◌, inl, inr}
+use Rattle.std.proofs.Common.{◌≡◌, ◌⊎◌, ◌∙◌, Bool, true, false, refl, List, [], ◌∷◌, inl, inr}
 use Rattle.std.specs.List.{list_any}
 use Rattle.std.proofs.lemmas.Bool.{both_ways, or_cases, or_left, or_right}
 use Rattle.lock_modes.specs.declared.mode.Mode.{Mode}
 use Rattle.lock_modes.specs.declared.mode.Mode.TheVariants.{S2, S3, U2, U3, Ip, X2, X3, TIs, TIx, TS, TX}
 use Rattle.lock_modes.specs.declared.modes.Modes.{Modes}
-use Rattle.lock_modes.specs.Modes.{all_modes, same_mode, has_mode, with_mode, no_modes, compatible}
+use Rattle.lock_modes.specs.Modes.{all_modes, same_mode, has_mode, with_mode, no_modes, is_held, compatible}
 
 -- the table of compatible modes is symmetric
 pub compatible_sym : (a b : Mode) → compatible a b ≡ compatible b a
@@ -422,3 +422,14 @@ among_all p TX h = or_right (p S2) _ (or_right (p S3) _ (or_right (p U2) _ (or_r
 pub none_passes : (xs : List Mode) (p : Mode → Bool) → ((x : Mode) → p x ≡ true → ⊥) → list_any p xs ≡ true → ⊥
 none_passes [] p no_one h = both_ways _ refl h
 none_passes (x ∷ xs) p no_one h = elim (or_cases (p x) (list_any p xs) h) [ inl y ↦ no_one x y | inr z ↦ none_passes xs p no_one z ]
+
+-- a set in which nothing is held is empty
+pub not_held : (ms : Modes) → is_held ms ≡ false → ms ≡ no_modes
+unfolding is_held
+not_held ms h =
+    let none : (a : Mode) → has_mode ms a ≡ false = λ a.
+    (let cases = λ (b : Bool) (e : has_mode ms a ≡ b).
+    (elim b as (λ x. has_mode ms a ≡ x → x ≡ false) [ true ↦ λ s. absurd (both_ways _ h (among_all (λ x. has_mode ms x) a s)) | false ↦ λ _. refl ]) e in
+    let is = λ (b : Bool) (e : has_mode ms a ≡ b) (k : b ≡ false). e ∙ k in
+    is (has_mode ms a) refl (cases (has_mode ms a) refl)) in
+    λ i. record { s2 = none S2 i; s3 = none S3 i; u2 = none U2 i; u3 = none U3 i; ip = none Ip i; x2 = none X2 i; x3 = none X3 i; t_is = none TIs i; t_ix = none TIx i; t_s = none TS i; t_x = none TX i }
