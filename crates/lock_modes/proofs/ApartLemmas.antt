@@ -117,7 +117,7 @@ apart_may g before r apart may = elim may [ inl c ↦ apart_covered g r apart c 
 pub apart_less : (g k : Grants) → ((t : TxnNo) (n : LockName) (a : Mode) → has_mode (k t n) a ≡ true → has_mode (g t n) a ≡ true) → IsApart g → IsApart k
 apart_less g k less apart t u n a b other ha hb = apart t u n a b other (less t n a ha) (less u n b hb)
 
-less_cond : (c : Bool) (ms : Modes) (a : Mode) → has_mode (cond c no_modes ms) a ≡ true → has_mode ms a ≡ true
+pub less_cond : (c : Bool) (ms : Modes) (a : Mode) → has_mode (cond c no_modes ms) a ≡ true → has_mode ms a ≡ true
 less_cond true ms a h = absurd (both_ways _ (has_none a) h)
 less_cond false ms a h = h
 

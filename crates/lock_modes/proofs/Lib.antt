@@ -2,3 +2,4 @@ pub mod ModesLemmas
 pub mod NamesLemmas
 pub mod TablesLemmas
 pub mod ApartLemmas
+pub mod EscalationLemmas

@@ -5,3 +5,4 @@ pub mod Waits
 pub mod Proper
 pub mod Serving
 pub mod Apart
+pub mod Escalation

@@ -1,13 +1,14 @@
 //! Laws of lock tables: what holds of every state and every event. Each call is a proof and does nothing.
 
-ghost use Rattle.std.specs.Prelude.{◌≡◌, true, false, Bool};
+ghost use Rattle.std.specs.Prelude.{◌≡◌, true, false, Bool, ℕ, List};
 ghost use Rattle.dby_types.specs.declared.number.TxnNo.{TxnNo};
 ghost use Rattle.lock_modes.specs.declared.event.LockEvent.{LockEvent};
 ghost use Rattle.lock_modes.specs.declared.event.LockEvent.TheVariants.{ReleasedAll};
 ghost use Rattle.lock_modes.specs.declared.mode.Mode.{Mode};
 ghost use Rattle.lock_modes.specs.declared.name.LockName.{LockName};
 ghost use Rattle.lock_modes.specs.Apart.{IsApart, IsGone, takes};
-ghost use Rattle.lock_modes.specs.Lock.{Lock, apply};
+ghost use Rattle.lock_modes.specs.Escalation.{IsAllRows, released_rows, releases};
+ghost use Rattle.lock_modes.specs.Lock.{Lock, apply, apply_all};
 ghost use Rattle.lock_modes.specs.Modes.{compatible, covers, has_mode};
 ghost use Rattle.lock_modes.specs.Proper.{IsProper};
 
@@ -37,4 +38,9 @@ pub fn grants_stay()
 #[tactic(auto, using(crate::proofs::ApartLemmas::gone))]
 pub fn nothing_is_left()
     ensures { (l : Lock) (t : TxnNo) → IsGone (apply l (ReleasedAll t)) t }
+{}
+
+/// Names that are given back in any order leave the same state, and all rows of a table leave none of them.
+pub fn rows_are_given_back()
+    ensures { (l : Lock) (t : TxnNo) (table : ℕ) (names : List LockName) → IsAllRows l t table names → apply_all l (releases t names) ≡ record l { grants = released_rows l.grants t table } }
 {}
