@@ -8,3 +8,4 @@ pub mod BothLemmas
 pub mod TalliesLemmas
 pub mod NumberLemmas
 pub mod BlockingLemmas
+pub mod EscalateLemmas

@@ -1,8 +1,8 @@
 -- Counting the names that pass a test.
 use Rattle.std.proofs.Common.{◌≡◌, ℕ, ◌+◌, ◌<◌, ◌≤◌, Bool, true, false, refl, sym, ◌∙◌, ap, cond, List, [], ◌∷◌, length, subst, arith, Option, Some, None, Result, Ok, Err, ◌⊎◌, inl, inr}
 use Rattle.std.specs.Result.{IfOk, IsOk}
-use Rattle.std.specs.Prelude.{◌&&◌, ◌||◌, nat_eq, ◌^◌}
-use Rattle.std.specs.List.{list_any, sum_by, IsDistinct, AllByRecursion}
+use Rattle.std.specs.Prelude.{◌&&◌, ◌||◌, not, nat_eq, ◌^◌}
+use Rattle.std.specs.List.{filter, list_any, sum_by, IsDistinct, AllByRecursion}
 use Rattle.std.specs.Option.{unwrap_or}
 use Rattle.std.specs.Map.{lookup, set_value, remove_entry, keys_of}
 use Rattle.std.specs.HashMap.{HashMap, keys, get, get_by, WritesThrough, IsUnique, PutsEntry, spare}
@@ -12,6 +12,7 @@ use Rattle.std.proofs.lemmas.List.Sorted.{sum_by-IsPermutation}
 use Rattle.std.proofs.lemmas.Bool.{both_ways, eqb-true}
 use Rattle.lock_modes.specs.declared.modes.Modes.{Modes}
 use Rattle.lock_modes.specs.declared.name.LockName.{LockName}
+use Rattle.lock_modes.specs.declared.name.LockName.TheVariants.{Dictionary, Table, Row, First}
 use Rattle.lock_modes.specs.contracts.name.LockNamePartialEq.TheImpl.{eq-value}
 use Rattle.lock_modes.specs.Modes.{no_modes, is_held, writes, is_ranged}
 use Rattle.lock_modes.specs.Names.{same_name, is_row_name}
@@ -21,7 +22,7 @@ use Rattle.lock_modes.proofs.NamesLemmas.{name_eq}
 use Rattle.lock_manager.specs.declared.tallies.Rows.{Rows}
 use Rattle.lock_manager.specs.declared.tallies.Tallies.{Tallies}
 use Rattle.lock_manager.specs.ByName.{modes_at}
-use Rattle.lock_manager.specs.Tallies.{one, count_of, is_name, is_ranged_name, is_row_of, is_written_of, IsQuiet, no_rows, rows_at, Counts, Moves, CanTally, RowsTallied, IsTallied}
+use Rattle.lock_manager.specs.Tallies.{one, count_of, is_name, is_ranged_name, is_row_of, is_written_of, is_ranged_of, IsDropped, IsQuiet, no_rows, rows_at, Counts, Moves, CanTally, IsTallied}
 use Rattle.lock_manager.proofs.NameLemmas.{map_eq, get_same}
 
 abbrev Entries : Type 0
@@ -148,6 +149,9 @@ quiet_ranged = λ n. refl
 quiet_row : (k : ℕ) → IsQuiet (is_row_of k)
 quiet_row k = λ n. ap (λ b. is_row_name k n && b) held_none ∙ and_no (is_row_name k n)
 
+quiet_ranged_row : (k : ℕ) → IsQuiet (is_ranged_of k)
+quiet_ranged_row k = λ n. and_no (is_row_name k n)
+
 quiet_written : (k : ℕ) → IsQuiet (is_written_of k)
 quiet_written k = λ n. and_no (is_row_name k n)
 
@@ -161,8 +165,10 @@ can_tally t es n was c small is = subst (λ (w : Modes). CanTally t n w) (sym is
   tables = record {
     rows = λ k. (let a = c.rows k in let b = count_least (is_row_of k) (quiet_row k) n es in omega (arith, a, b));
     written = λ k. (let a = c.written k in let b = count_least (is_written_of k) (quiet_written k) n es in omega (arith, a, b));
+    ranged = λ k. (let a = c.ranged_rows k in let b = count_least (is_ranged_of k) (quiet_ranged_row k) n es in omega (arith, a, b));
     rows_small = λ k. (let a = c.rows k in let b = count_small (is_row_of k) es in omega (arith, a, b, small));
     written_small = λ k. (let a = c.written k in let b = count_small (is_written_of k) es in omega (arith, a, b, small));
+    ranged_small = λ k. (let a = c.ranged_rows k in let b = count_small (is_ranged_of k) es in omega (arith, a, b, small));
   };
 }
 
@@ -175,6 +181,7 @@ counts_after t t' es es' n was now before after c k is is' moves =
       ranged = (let a = c.ranged in let b = k.ranged in let d = m is_ranged_name quiet_ranged in omega (arith, a, b, d));
       rows = λ j. (let a = c.rows j in let b = k.tables.rows j in let d = m (is_row_of j) (quiet_row j) in omega (arith, a, b, d));
       written = λ j. (let a = c.written j in let b = k.tables.written j in let d = m (is_written_of j) (quiet_written j) in omega (arith, a, b, d));
+      ranged_rows = λ j. (let a = c.ranged_rows j in let b = k.tables.ranged j in let d = m (is_ranged_of j) (quiet_ranged_row j) in omega (arith, a, b, d));
     }
 
 -- the entries in another order
@@ -184,45 +191,131 @@ counts_reordered t t' es es' c order names ranged rows = record {
   ranged = ranged ∙ c.ranged ∙ count_permutation is_ranged_name es es' order;
   rows = λ k. ap (λ (r : Rows). r.names) (rows k) ∙ c.rows k ∙ count_permutation (is_row_of k) es es' order;
   written = λ k. ap (λ (r : Rows). r.written) (rows k) ∙ c.written k ∙ count_permutation (is_written_of k) es es' order;
+  ranged_rows = λ k. ap (λ (r : Rows). r.ranged) (rows k) ∙ c.ranged_rows k ∙ count_permutation (is_ranged_of k) es es' order;
 }
 
--- nothing is noted of a name of no table
-pub none_tallied : {S : Type 0} (m : HashMap ℕ Rows S) (n : LockName) (was now : Modes) → ((k : ℕ) → is_row_name k n ≡ false) → RowsTallied m m n was now
-none_tallied m n was now none = record {
-  rows = λ k. ap (λ b. (rows_at m k).names + one (b && is_held was)) (none k) ∙ sym (ap (λ b. (rows_at m k).names + one (b && is_held now)) (none k));
-  written = λ k. ap (λ b. (rows_at m k).written + one (b && writes was)) (none k) ∙ sym (ap (λ b. (rows_at m k).written + one (b && writes now)) (none k));
-}
+-- the count without the names that pass another test
+count_filter : (q : LockName → Bool) (p : LockName → Modes → Bool) (es : Entries) → count_of p (filter (λ e. not (q e.0)) es) + count_of (λ n ms. q n && p n ms) es ≡ count_of p es
+count_filter q p [] = refl
+count_filter q p (e ∷ es) =
+    let rest = count_filter q p es in
+    let left : Entries = filter (λ e. not (q e.0)) es in
+    let cases = λ (b : Bool).
+    (elim b as (λ x. count_of p (cond (not x) (e ∷ left) left) + (one (x && p e.0 e.1) + count_of (λ n ms. q n && p n ms) es) ≡ one (p e.0 e.1) + count_of p es) [
+      | true ↦ (let g : count_of p left + (one (p e.0 e.1) + count_of (λ n ms. q n && p n ms) es) ≡ one (p e.0 e.1) + count_of p es = omega (arith, rest) in g)
+      | false ↦ (let g : (one (p e.0 e.1) + count_of p left) + (0 + count_of (λ n ms. q n && p n ms) es) ≡ one (p e.0 e.1) + count_of p es = omega (arith, rest) in g)
+    ]) in
+    cases (q e.0)
 
-pub rows_tallied : {S : Type 0} (m m' : HashMap ℕ Rows S) (n : LockName) (was now : Modes) (table : ℕ) (rows : Rows)
-    → ((k : ℕ) → is_row_name k n ≡ nat_eq table k)
-    → ((k : ℕ) → rows_at m' k ≡ cond (nat_eq table k) rows (rows_at m k))
-    → rows.names + one (is_held was) ≡ (rows_at m table).names + one (is_held now)
-    → rows.written + one (writes was) ≡ (rows_at m table).written + one (writes now)
-    → RowsTallied m m' n was now
-rows_tallied m m' n was now table rows is put names written = record {
-  rows = λ k.
-      let cases = λ (b : Bool) (e : nat_eq table k ≡ b).
-      (elim b as (λ x. nat_eq table k ≡ x → (cond x rows (rows_at m k)).names + one (x && is_held was) ≡ (rows_at m k).names + one (x && is_held now))
-      [ true ↦ λ t. names ∙ ap (λ j. (rows_at m j).names + one (is_held now)) (eqb-true table k t) | false ↦ λ _. refl ]) e in
-      ap (λ (r : Rows). r.names + one (is_row_name k n && is_held was)) (put k) ∙ ap (λ b. (cond (nat_eq table k) rows (rows_at m k)).names + one (b && is_held was)) (is k)
-      ∙ cases (nat_eq table k) refl ∙ ap (λ b. (rows_at m k).names + one (b && is_held now)) (sym (is k));
-  written = λ k.
-      let cases = λ (b : Bool) (e : nat_eq table k ≡ b).
-      (elim b as (λ x. nat_eq table k ≡ x → (cond x rows (rows_at m k)).written + one (x && writes was) ≡ (rows_at m k).written + one (x && writes now))
-      [ true ↦ λ t. written ∙ ap (λ j. (rows_at m j).written + one (writes now)) (eqb-true table k t) | false ↦ λ _. refl ]) e in
-      ap (λ (r : Rows). r.written + one (is_row_name k n && writes was)) (put k) ∙ ap (λ b. (cond (nat_eq table k) rows (rows_at m k)).written + one (b && writes was)) (is k)
-      ∙ cases (nat_eq table k) refl ∙ ap (λ b. (rows_at m k).written + one (b && writes now)) (sym (is k));
-}
+-- names of two tables are not the same
+other_table : (table k : ℕ) (n : LockName) → nat_eq table k ≡ false → is_row_name table n ≡ true → is_row_name k n ≡ false
+other_table table k Dictionary f h = absurd (both_ways _ refl h)
+other_table table k (Table a) f h = absurd (both_ways _ refl h)
+other_table table k (Row a r) f h = ap (λ z. nat_eq z k) (eqb-true a table h) ∙ f
+other_table table k (First a i) f h = ap (λ z. nat_eq z k) (eqb-true a table h) ∙ f
 
--- what is noted of each table after something was put
-pub put_at : {S : Type 0} (m n : HashMap ℕ Rows S) (table : ℕ) (v : Rows)
-    → ((q : ℕ) → get nat_eq n q ≡ cond (nat_eq table q) (Some v) (get nat_eq m q))
-    → (k : ℕ) → rows_at n k ≡ cond (nat_eq table k) v (rows_at m k)
-put_at m n table v put k = ap (λ (o : Option Rows). unwrap_or o no_rows) (put k) ∙ unwrapped (nat_eq table k) (get nat_eq m k)
+-- a table's tallies once its names are dropped, and another's
+dropped_none : (f : Modes → Bool) (table : ℕ) (es : Entries) → count_of (λ n ms. is_row_name table n && f ms) (filter (λ e. not (is_row_name table e.0)) es) ≡ 0
+dropped_none f table [] = refl
+dropped_none f table (x ∷ xs) =
+    let rest = dropped_none f table xs in
+    let left : Entries = filter (λ e. not (is_row_name table e.0)) xs in
+    let cases = λ (b : Bool) (q : is_row_name table x.0 ≡ b).
+    (elim b as (λ y. is_row_name table x.0 ≡ y → count_of (λ n ms. is_row_name table n && f ms) (cond (not y) (x ∷ left) left) ≡ 0) [
+      | true ↦ λ _. rest
+      | false ↦ λ h. ap (λ c. one (c && f x.1) + count_of (λ n ms. is_row_name table n && f ms) left) h ∙ (let g : 0 + count_of (λ n ms. is_row_name table n && f ms) left ≡ 0 = omega (arith, rest) in g)
+    ]) q in
+    cases (is_row_name table x.0) refl
+
+dropped_all : (f : Modes → Bool) (table k : ℕ) → nat_eq table k ≡ false → (es : Entries) → count_of (λ n ms. is_row_name k n && f ms) (filter (λ e. not (is_row_name table e.0)) es) ≡ count_of (λ n ms. is_row_name k n && f ms) es
+dropped_all f table k e [] = refl
+dropped_all f table k e (x ∷ xs) =
+    let rest = dropped_all f table k e xs in
+    let left : Entries = filter (λ e. not (is_row_name table e.0)) xs in
+    let cases = λ (b : Bool) (q : is_row_name table x.0 ≡ b).
+    (elim b as (λ y. is_row_name table x.0 ≡ y → count_of (λ n ms. is_row_name k n && f ms) (cond (not y) (x ∷ left) left) ≡ one (is_row_name k x.0 && f x.1) + count_of (λ n ms. is_row_name k n && f ms) xs) [
+      | true ↦ λ h. rest ∙ sym (ap (λ c. one (c && f x.1) + count_of (λ n ms. is_row_name k n && f ms) xs) (other_table table k x.0 e h) ∙ (let g : 0 + count_of (λ n ms. is_row_name k n && f ms) xs ≡ count_of (λ n ms. is_row_name k n && f ms) xs = omega arith in g))
+      | false ↦ λ h. ap (λ c. one (is_row_name k x.0 && f x.1) + c) rest
+    ]) q in
+    cases (is_row_name table x.0) refl
+
+dropped_rows : (f : Modes → Bool) (table k : ℕ) (es : Entries)
+    → count_of (λ n ms. is_row_name k n && f ms) (filter (λ e. not (is_row_name table e.0)) es) ≡ cond (nat_eq table k) 0 (count_of (λ n ms. is_row_name k n && f ms) es)
+dropped_rows f table k es =
+    let cases = λ (b : Bool) (q : nat_eq table k ≡ b).
+    (elim b as (λ y. nat_eq table k ≡ y → count_of (λ n ms. is_row_name k n && f ms) (filter (λ e. not (is_row_name table e.0)) es) ≡ cond y 0 (count_of (λ n ms. is_row_name k n && f ms) es)) [
+      | true ↦ λ h. subst (λ (j : ℕ). count_of (λ n ms. is_row_name j n && f ms) (filter (λ e. not (is_row_name table e.0)) es) ≡ 0) (eqb-true table k h) (dropped_none f table es)
+      | false ↦ λ h. dropped_all f table k h es
+    ]) q in
+    cases (nat_eq table k) refl
+
+-- the tallies allow that a table is dropped
+pub can_drop : (t : Tallies) (es : Entries) (table : ℕ) → Counts t es → ((rows_at t.tables table).names ≤ t.names) × ((rows_at t.tables table).ranged ≤ t.ranged)
+can_drop t es table c =
+    let left : Entries = filter (λ e. not (is_row_name table e.0)) es in
+    let a : count_of is_name left + count_of (is_row_of table) es ≡ count_of is_name es = count_filter (is_row_name table) is_name es in
+    let b : count_of is_ranged_name left + count_of (is_ranged_of table) es ≡ count_of is_ranged_name es = count_filter (is_row_name table) is_ranged_name es in
+    ((let x = c.names in let y = c.rows table in omega (arith, a, x, y)), (let x = c.ranged in let y = c.ranged_rows table in omega (arith, b, x, y)))
+
+names_if : (b : Bool) (r : Rows) → (cond b no_rows r).names ≡ cond b 0 r.names
+names_if true r = refl
+names_if false r = refl
+
+written_if : (b : Bool) (r : Rows) → (cond b no_rows r).written ≡ cond b 0 r.written
+written_if true r = refl
+written_if false r = refl
+
+ranged_if : (b : Bool) (r : Rows) → (cond b no_rows r).ranged ≡ cond b 0 r.ranged
+ranged_if true r = refl
+ranged_if false r = refl
+
+dropped_counts : (t t' : Tallies) (es : Entries) (table : ℕ) → Counts t es → IsDropped t t' table → Counts t' (filter (λ e. not (is_row_name table e.0)) es)
+dropped_counts t t' es table c d =
+    let left : Entries = filter (λ e. not (is_row_name table e.0)) es in
+    let a : count_of is_name left + count_of (is_row_of table) es ≡ count_of is_name es = count_filter (is_row_name table) is_name es in
+    let b : count_of is_ranged_name left + count_of (is_ranged_of table) es ≡ count_of is_ranged_name es = count_filter (is_row_name table) is_ranged_name es in
+    record {
+      names = (let x = c.names in let y = c.rows table in let z = d.names in omega (arith, a, x, y, z));
+      ranged = (let x = c.ranged in let y = c.ranged_rows table in let z = d.ranged in omega (arith, b, x, y, z));
+      rows = λ k. ap (λ (r : Rows). r.names) (d.tables k) ∙ names_if (nat_eq table k) (rows_at t.tables k) ∙ ap (λ x. cond (nat_eq table k) 0 x) (c.rows k) ∙ sym (dropped_rows is_held table k es);
+      written = λ k. ap (λ (r : Rows). r.written) (d.tables k) ∙ written_if (nat_eq table k) (rows_at t.tables k) ∙ ap (λ x. cond (nat_eq table k) 0 x) (c.written k) ∙ sym (dropped_rows writes table k es);
+      ranged_rows = λ k. ap (λ (r : Rows). r.ranged) (d.tables k) ∙ ranged_if (nat_eq table k) (rows_at t.tables k) ∙ ap (λ x. cond (nat_eq table k) 0 x) (c.ranged_rows k) ∙ sym (dropped_rows is_ranged table k es);
+    }
+
+pub counts_dropped : (t t' : Tallies) (es es' : Entries) (table : ℕ) → Counts t es → IsDropped t t' table → es' ≡ filter (λ e. not (is_row_name table e.0)) es → Counts t' es'
+counts_dropped t t' es es' table c d is = subst (λ (x : Entries). Counts t' x) (sym is) (dropped_counts t t' es table c d)
+
+-- the modes by name without the names of a table
+abbrev none_if : Bool → Option Modes → Option Modes
+none_if b o = cond b None o
+
+found_dropped : (table : ℕ) (k : LockName) (es : Entries) → lookup (same_name k) (filter (λ e. not (is_row_name table e.0)) es) ≡ none_if (is_row_name table k) (lookup (same_name k) es)
+found_dropped table k [] = nothing (is_row_name table k)
   where
-    unwrapped : (b : Bool) (o : Option Rows) → unwrap_or (cond b (Some v) o) no_rows ≡ cond b v (unwrap_or o no_rows)
-    unwrapped true o = refl
-    unwrapped false o = refl
+    nothing : (b : Bool) → None ≡ none_if b None
+    nothing true = refl
+    nothing false = refl
+found_dropped table k (e ∷ es) = which (same_name k e.0) refl (is_row_name table e.0) refl (found_dropped table k es)
+  where
+    which : (b : Bool) → same_name k e.0 ≡ b → (c : Bool) → is_row_name table e.0 ≡ c
+        → lookup (same_name k) (filter (λ e. not (is_row_name table e.0)) es) ≡ none_if (is_row_name table k) (lookup (same_name k) es)
+        → lookup (same_name k) (cond (not c) (e ∷ filter (λ e. not (is_row_name table e.0)) es) (filter (λ e. not (is_row_name table e.0)) es)) ≡ none_if (is_row_name table k) (cond b (Some e.1) (lookup (same_name k) es))
+    which true t true row rest =
+        let here : is_row_name table k ≡ true = ap (λ z. is_row_name table z) (name_eq k e.0 t) ∙ row in
+        rest ∙ ap (λ b. none_if b (lookup (same_name k) es)) here ∙ sym (ap (λ b. none_if b (Some e.1)) here)
+    which true t false row rest =
+        let here : is_row_name table k ≡ false = ap (λ z. is_row_name table z) (name_eq k e.0 t) ∙ row in
+        ap (λ (b : Bool). cond b (Some e.1) (lookup (same_name k) (filter (λ e. not (is_row_name table e.0)) es))) t ∙ sym (ap (λ b. none_if b (Some e.1)) here)
+    which false f true row rest = rest
+    which false f false row rest = ap (λ (b : Bool). cond b (Some e.1) (lookup (same_name k) (filter (λ e. not (is_row_name table e.0)) es))) f ∙ rest
+
+either : (b : Bool) (o : Option Modes) → unwrap_or (cond b None o) no_modes ≡ cond b no_modes (unwrap_or o no_modes)
+either true o = refl
+either false o = refl
+
+pub modes_dropped : {S : Type 0} (m n : HashMap LockName Modes S) (table : ℕ) → n.entries ≡ filter (λ e. not (is_row_name table e.0)) m.entries → (k : LockName) → modes_at n k ≡ cond (is_row_name table k) no_modes (modes_at m k)
+modes_dropped m n table is k =
+    ap (λ (es : Entries). unwrap_or (lookup (same_name k) es) no_modes) is ∙ ap (λ (o : Option Modes). unwrap_or o no_modes) (found_dropped table k m.entries) ∙ either (is_row_name table k) (lookup (same_name k) m.entries)
 
 -- the names that pass a test
 abbrev names_of : (LockName → Modes → Bool) → Entries → List LockName

@@ -13,6 +13,7 @@ use Rattle.lock_modes.specs.Names.{same_txn, is_row_name}
 use Rattle.lock_modes.specs.Proper.{IsRefused, MayHave}
 use Rattle.lock_modes.specs.Serving.{Serves, grants_of}
 use Rattle.lock_modes.specs.Waits.{earlier, blocks}
+use Rattle.lock_modes.specs.Escalation.{released_rows, IsAllRows, escalation}
 use Rattle.lock_manager.specs.declared.table.LockTable.{LockTable}
 use Rattle.lock_manager.specs.declared.tried.Tried.{Tried}
 use Rattle.lock_manager.specs.declared.tried.Tried.TheVariants.{Granted, Conflict}
@@ -50,6 +51,17 @@ pub record Gives (old new : LockTable) (es : List LockEvent) : Type 0 where
   pub noted : woken_of new ≡ woken_of old ++ given
   pub order : Serves (apply_all (lock old) es).grants [] (queue (apply_all (lock old) es)) given (queue (lock new))
   pub events : lock new ≡ apply_all (apply_all (lock old) es) (grants_of given)
+
+-- a transaction gave back its rows of a table, and then each queued request that could be granted was granted, in order
+pub record GivesRows (old new : LockTable) (t : TxnNo) (table : ℕ) : Type 0 where
+  pub given : List Request
+  pub noted : woken_of new ≡ woken_of old ++ given
+  pub order : Serves (released_rows (lock old).grants t table) [] (queue (lock old)) given (queue (lock new))
+  pub events : lock new ≡ apply_all (record (lock old) { grants = released_rows (lock old).grants t table }) (grants_of given)
+
+-- a table's mode was granted and its rows were given back, in whatever order, and then queued requests were granted
+abbrev pub Escalates : LockTable → LockTable → TxnNo → ℕ → Mode → Type 0
+Escalates old new t table mode = (names : List LockName) → IsAllRows (lock old) t table names → Gives old new (escalation t table mode names)
 
 -- one name less is left to a transaction, unless it has something on the name already
 abbrev pub IsSpent : LockTable → LockTable → TxnNo → Bool → Type 0

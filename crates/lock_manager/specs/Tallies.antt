@@ -1,5 +1,5 @@
 -- How many names of a transaction pass a test.
-use Rattle.std.specs.Prelude.{◌≡◌, ◌≤◌, ◌<◌, ◌+◌, ◌^◌, ℕ, Bool, true, false, ◌&&◌, List, [], ◌∷◌, nat_eq}
+use Rattle.std.specs.Prelude.{◌≡◌, ◌≤◌, ◌<◌, ◌+◌, ◌^◌, ℕ, Bool, true, false, ◌&&◌, List, [], ◌∷◌, nat_eq, if◌then◌else◌}
 use Rattle.std.specs.HashMap.{HashMap, get}
 use Rattle.std.specs.Option.{unwrap_or}
 use Rattle.lock_modes.specs.declared.modes.Modes.{Modes}
@@ -29,6 +29,9 @@ is_ranged_name n ms = is_ranged ms
 abbrev pub is_row_of : ℕ → LockName → Modes → Bool
 is_row_of table n ms = is_row_name table n && is_held ms
 
+abbrev pub is_ranged_of : ℕ → LockName → Modes → Bool
+is_ranged_of table n ms = is_row_name table n && is_ranged ms
+
 abbrev pub is_written_of : ℕ → LockName → Modes → Bool
 is_written_of table n ms = is_row_name table n && writes ms
 
@@ -37,7 +40,7 @@ abbrev pub IsQuiet : (LockName → Modes → Bool) → Type 0
 IsQuiet p = (n : LockName) → p n no_modes ≡ false
 
 abbrev pub no_rows : Rows
-no_rows = record { names = 0; written = 0 }
+no_rows = record { names = 0; written = 0; ranged = 0 }
 
 -- what is noted of a table
 abbrev pub rows_at : {S : Type 0} → HashMap ℕ Rows S → ℕ → Rows
@@ -49,6 +52,7 @@ pub record Counts (t : Tallies) (es : List (LockName × Modes)) : Type 0 where
   pub ranged : t.ranged ≡ count_of is_ranged_name es
   pub rows : (k : ℕ) → (rows_at t.tables k).names ≡ count_of (is_row_of k) es
   pub written : (k : ℕ) → (rows_at t.tables k).written ≡ count_of (is_written_of k) es
+  pub ranged_rows : (k : ℕ) → (rows_at t.tables k).ranged ≡ count_of (is_ranged_of k) es
 
 -- one name's modes changed, and every tally with them
 abbrev pub Moves : List (LockName × Modes) → List (LockName × Modes) → LockName → Modes → Modes → Type 0
@@ -58,6 +62,8 @@ Moves es es' n was now = (p : LockName → Modes → Bool) → IsQuiet p → cou
 pub record CanTallyRows {S : Type 0} (m : HashMap ℕ Rows S) (n : LockName) (was : Modes) : Type 0 where
   pub rows : (k : ℕ) → one (is_row_of k n was) ≤ (rows_at m k).names
   pub written : (k : ℕ) → one (is_written_of k n was) ≤ (rows_at m k).written
+  pub ranged : (k : ℕ) → one (is_ranged_of k n was) ≤ (rows_at m k).ranged
+  pub ranged_small : (k : ℕ) → (rows_at m k).ranged < 2 ^ 63
   pub rows_small : (k : ℕ) → (rows_at m k).names < 2 ^ 63
   pub written_small : (k : ℕ) → (rows_at m k).written < 2 ^ 63
 
@@ -72,8 +78,15 @@ pub record CanTally (t : Tallies) (n : LockName) (was : Modes) : Type 0 where
 pub record RowsTallied {S : Type 0} (m m' : HashMap ℕ Rows S) (n : LockName) (was now : Modes) : Type 0 where
   pub rows : (k : ℕ) → (rows_at m' k).names + one (is_row_of k n was) ≡ (rows_at m k).names + one (is_row_of k n now)
   pub written : (k : ℕ) → (rows_at m' k).written + one (is_written_of k n was) ≡ (rows_at m k).written + one (is_written_of k n now)
+  pub ranged : (k : ℕ) → (rows_at m' k).ranged + one (is_ranged_of k n was) ≡ (rows_at m k).ranged + one (is_ranged_of k n now)
 
 pub record IsTallied (t t' : Tallies) (n : LockName) (was now : Modes) : Type 0 where
   pub names : t'.names + one (is_held was) ≡ t.names + one (is_held now)
   pub ranged : t'.ranged + one (is_ranged was) ≡ t.ranged + one (is_ranged now)
   pub tables : RowsTallied t.tables t'.tables n was now
+
+-- what was noted of a table is taken away
+pub record IsDropped (t t' : Tallies) (table : ℕ) : Type 0 where
+  pub names : t'.names + (rows_at t.tables table).names ≡ t.names
+  pub ranged : t'.ranged + (rows_at t.tables table).ranged ≡ t.ranged
+  pub tables : (k : ℕ) → rows_at t'.tables k ≡ (if nat_eq table k then no_rows else rows_at t.tables k)

@@ -2,7 +2,7 @@
 
 ghost use Rattle.lock_manager.specs.Tallies.{Counts};
 
-use crate::names::{drop_modes, put_modes};
+use crate::names::{drop_modes, drop_rows, put_modes};
 use crate::tallies::{Tallies, rows_of};
 use lock_modes::mode::Mode;
 use lock_modes::modes::Modes;
@@ -113,6 +113,15 @@ impl Holdings {
         if was.is_held() {
             self.remove_held(name, was);
         }
+    }
+
+    /// Takes away what stands under the rows, and places before a first entry, of a table.
+    pub fn remove_rows(&mut self, table: u32)
+        ensures exact { (k : LockName) → modes_in self.new k ≡ (if is_row_name table k then no_modes else modes_in self.old k) }
+        ensures room { (spare self.old.modes ≤ spare self.new.modes) × (spare self.old.tallies.tables ≤ spare self.new.tallies.tables) }
+    {
+        self.tallies.drop_table(table);
+        drop_rows(&mut self.modes, table);
     }
 
     fn remove_held(&mut self, name: LockName, was: Modes)

@@ -1,15 +1,16 @@
 //! The modes of one transaction, by name.
 
-ghost use Rattle.std.specs.Prelude.{◌≡◌, ◌≤◌, ◌<◌, ◌+◌, ◌⊎◌, ℕ, true, if◌then◌else◌};
+ghost use Rattle.std.specs.Prelude.{◌≡◌, ◌≤◌, ◌<◌, ◌+◌, ◌⊎◌, ℕ, true, not, if◌then◌else◌};
+ghost use Rattle.std.specs.List.{filter};
 ghost use Rattle.std.specs.HashMap.{spare};
 ghost use Rattle.lock_modes.specs.Modes.{no_modes, is_held};
-ghost use Rattle.lock_modes.specs.Names.{same_name};
+ghost use Rattle.lock_modes.specs.Names.{same_name, is_row_name};
 ghost use Rattle.lock_modes.specs.declared.name.LockName.{LockName};
 ghost use Rattle.lock_manager.specs.ByName.{modes_at};
 ghost use Rattle.lock_manager.specs.Tallies.{Moves};
 
 use lock_modes::modes::Modes;
-use lock_modes::name::LockName;
+use lock_modes::name::{LockName, is_row_name};
 use std::collections::HashMap;
 
 /// Puts the modes on a name.
@@ -34,4 +35,12 @@ pub fn drop_modes(names: &mut HashMap<LockName, Modes>, name: LockName)
     ensures room { spare names.old ≤ spare names.new }
 {
     let _ = names.remove(&name);
+}
+
+/// Takes away what stands under the rows, and places before a first entry, of a table.
+pub fn drop_rows(names: &mut HashMap<LockName, Modes>, table: u32)
+    ensures entries { names.new.entries ≡ filter (λ e. not (is_row_name table e.0)) names.old.entries }
+    ensures room { spare names.old ≤ spare names.new }
+{
+    names.retain(|name, _| !is_row_name(table, *name));
 }

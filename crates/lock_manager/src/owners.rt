@@ -5,6 +5,7 @@ ghost use Rattle.dby_types.specs.declared.number.TxnNo.{TxnNo};
 ghost use Rattle.lock_modes.specs.Modes.{hinders, is_held, is_ranged, writes};
 ghost use Rattle.lock_modes.specs.Waits.{IsNumber};
 ghost use Rattle.lock_modes.specs.Lock.{granted, released, released_all};
+ghost use Rattle.lock_modes.specs.Escalation.{released_rows};
 ghost use Rattle.lock_modes.specs.Names.{same_name, same_txn, is_row_name};
 ghost use Rattle.lock_manager.specs.Owners.{owner_of, grants_in, left_in, victim_in, waits_in, left_sum, Changes, IsGone, IsSame};
 ghost use Rattle.lock_modes.specs.declared.name.LockName.{LockName};
@@ -111,6 +112,18 @@ pub fn release(owners: &mut Owners, txn: TxnNo, name: LockName)
 {
     if let Some(owner) = owners.get_mut(&txn) {
         owner.release(name);
+    }
+}
+
+/// Takes away all that a transaction has on the rows, and places before a first entry, of a table.
+pub fn release_rows(owners: &mut Owners, txn: TxnNo, table: u32)
+    ensures changes { Changes owners.old.entries owners.new.entries txn (released_rows (grants_in owners.old.entries) txn table) }
+    ensures room { left_in owners.new.entries txn ≡ left_in owners.old.entries txn }
+    ensures same { waits_in owners.new.entries txn ≡ waits_in owners.old.entries txn }
+    ensures victim { victim_in owners.new.entries txn ≡ victim_in owners.old.entries txn }
+{
+    if let Some(owner) = owners.get_mut(&txn) {
+        owner.release_rows(table);
     }
 }
 

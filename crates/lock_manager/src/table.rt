@@ -43,8 +43,9 @@ pub struct LockTable {
 }
 
 impl LockTable {
+    ghost use Rattle.lock_modes.specs.declared.name.LockName.TheVariants.{Table};
     ghost use Rattle.lock_manager.specs.Blocking.{IsBlocker, IsUnblocked};
-    ghost use Rattle.lock_manager.specs.Table.{lock, spare_of, woken_of, IsCause, IsHindrance, IsSpent, IsUncontested, Gives, WritesIn, HoldsGap};
+    ghost use Rattle.lock_manager.specs.Table.{lock, spare_of, woken_of, IsCause, IsHindrance, IsSpent, IsUncontested, Gives, WritesIn, HoldsGap, GivesRows, Escalates};
 
     /// A table without locks.
     pub fn new(alloc: Global) -> LockTable
@@ -68,6 +69,13 @@ impl LockTable {
         ensures apart { IsApart (lock self.now).grants }
         ensures settled { IsSettled (lock self.now) }
     {}
+
+    /// For how many names more a transaction may ask.
+    pub fn spare(&self, t: TxnNo) -> u32
+        ensures exact { result ≡ spare_of self.now t }
+    {
+        owners::left(&self.owners, t)
+    }
 
     /// How many requests wait.
     pub fn waiters(&self) -> usize
@@ -299,6 +307,46 @@ impl LockTable {
         ensures room { (u : TxnNo) → spare_of self.new u ≡ spare_of self.old u }
     {
         owners::release(&mut self.owners, t, name);
+        serve_both(
+            &mut self.owners,
+            &mut self.conversions,
+            &mut self.requests,
+            &mut self.woken,
+        );
+    }
+
+    /// Asks for a mode on a table on which the transaction has something already, and has it at once or not at all. Then it gives
+    /// back its rows, and places before a first entry, of the table, and grants what can be granted then.
+    pub fn escalate(&mut self, t: TxnNo, table: u32, mode: Mode) -> Tried
+        requires idle { waiting (lock self.old) t ≡ None }
+        requires held { has_grant (lock self.old).grants t (Table table) ≡ true }
+        ensures cause { IsCause (lock self.old) (request t (Table table) mode) result }
+        ensures ok { result ≡ Tried.Granted → Escalates self.old self.new t table mode }
+        ensures err { (h : TxnNo) → result ≡ Tried.Conflict h → lock self.new ≡ lock self.old }
+        ensures woken { (h : TxnNo) → result ≡ Tried.Conflict h → woken_of self.new ≡ woken_of self.old }
+        ensures room { (u : TxnNo) → spare_of self.new u ≡ spare_of self.old u }
+    {
+        let r = Request {
+            txn: t,
+            name: LockName::Table(table),
+            mode,
+        };
+        match self.hindrance(r) {
+            Some(h) => Tried::Conflict(h),
+            None => {
+                self.grant(r);
+                self.give_rows(t, table);
+                Tried::Granted
+            }
+        }
+    }
+
+    /// Gives back all rows of a table, and grants what can be granted then.
+    fn give_rows(&mut self, t: TxnNo, table: u32)
+        ensures ok { GivesRows self.old self.new t table }
+        ensures room { (u : TxnNo) → spare_of self.new u ≡ spare_of self.old u }
+    {
+        owners::release_rows(&mut self.owners, t, table);
         serve_both(
             &mut self.owners,
             &mut self.conversions,

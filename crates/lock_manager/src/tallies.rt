@@ -4,7 +4,7 @@ ghost use Rattle.std.specs.Prelude.{◌≡◌, ◌≤◌, ◌<◌, ◌+◌, ◌^
 ghost use Rattle.std.specs.HashMap.{spare};
 ghost use Rattle.lock_modes.specs.Modes.{is_held};
 ghost use Rattle.lock_modes.specs.Names.{is_row_name};
-ghost use Rattle.lock_manager.specs.Tallies.{one, rows_at, no_rows, CanTally, CanTallyRows, RowsTallied, IsTallied};
+ghost use Rattle.lock_manager.specs.Tallies.{one, rows_at, no_rows, CanTally, CanTallyRows, RowsTallied, IsTallied, IsDropped};
 
 use lock_modes::modes::Modes;
 use lock_modes::name::LockName;
@@ -18,6 +18,8 @@ pub struct Rows {
     pub names: u64,
     /// On how many of them it has a mode of one who changes.
     pub written: u64,
+    /// On how many of them it has a mode that also holds the gap.
+    pub ranged: u64,
 }
 
 /// How many names a transaction has.
@@ -63,6 +65,7 @@ pub fn rows_of(tables: &HashMap<u32, Rows>, table: u32) -> Rows
         None => Rows {
             names: 0,
             written: 0,
+            ranged: 0,
         },
     }
 }
@@ -81,6 +84,20 @@ fn put_rows(tables: &mut HashMap<u32, Rows>, table: u32, rows: Rows)
     let _ = tables.insert(table, rows);
 }
 
+/// Takes away what is noted of a table.
+fn clear_rows(tables: &mut HashMap<u32, Rows>, table: u32)
+    ensures exact { (k : ℕ) → rows_at tables.new k ≡ (if nat_eq table k then no_rows else rows_at tables.old k) }
+    ensures room { spare tables.new ≡ spare tables.old }
+{
+    if let Some(noted) = tables.get_mut(&table) {
+        *noted = Rows {
+            names: 0,
+            written: 0,
+            ranged: 0,
+        };
+    }
+}
+
 /// Follows a change of one name's modes.
 fn change_rows(tables: &mut HashMap<u32, Rows>, name: LockName, was: Modes, now: Modes)
     requires can { CanTallyRows tables.old name was }
@@ -95,7 +112,16 @@ fn change_rows(tables: &mut HashMap<u32, Rows>, name: LockName, was: Modes, now:
     let rows = rows_of(tables, table);
     let names = moved(rows.names, was.is_held(), now.is_held());
     let written = moved(rows.written, was.writes(), now.writes());
-    put_rows(tables, table, Rows { names, written });
+    let ranged = moved(rows.ranged, was.is_ranged(), now.is_ranged());
+    put_rows(
+        tables,
+        table,
+        Rows {
+            names,
+            written,
+            ranged,
+        },
+    );
 }
 
 impl Tallies {
@@ -123,6 +149,19 @@ impl Tallies {
         self.names = moved(self.names, was.is_held(), now.is_held());
         self.ranged = moved(self.ranged, was.is_ranged(), now.is_ranged());
         change_rows(&mut self.tables, name, was, now);
+    }
+
+    /// Takes away what is noted of a table.
+    pub fn drop_table(&mut self, table: u32)
+        requires names { (rows_at self.old.tables table).names ≤ self.old.names }
+        requires ranged { (rows_at self.old.tables table).ranged ≤ self.old.ranged }
+        ensures exact { IsDropped self.old self.new table }
+        ensures room { spare self.new.tables ≡ spare self.old.tables }
+    {
+        let rows = rows_of(&self.tables, table);
+        self.names -= rows.names;
+        self.ranged -= rows.ranged;
+        clear_rows(&mut self.tables, table);
     }
 
     /// Makes room for names of so many tables more.
