@@ -11,6 +11,8 @@ use Rattle.lock_modes.specs.Lock.{Lock, Grants, granted, without_request, withou
 use Rattle.lock_modes.specs.declared.event.LockEvent.TheVariants.{Granted}
 use Rattle.lock_modes.specs.Waits.{AllBlocked}
 use Rattle.lock_modes.specs.Serving.{Serves, granted_all, grants_of}
+use Rattle.lock_modes.specs.Apart.{IsApart}
+use Rattle.lock_modes.proofs.ApartLemmas.{apart_served}
 use Rattle.lock_modes.proofs.NamesLemmas.{txn_eq, txn_refl, txn_equiv, name_refl}
 use Rattle.lock_manager.specs.Owners.{Owners, grants_in, waits_in, victim_in}
 use Rattle.lock_manager.specs.Serve.{is_among, Waiters, Wakes, Served, ServedBoth, without_all}
@@ -208,6 +210,11 @@ pub settled_both : (a c : Owners) (cs rs cs' rs' given given' : List Request) �
 settled_both a c cs rs cs' rs' given given' s =
     let path : grants_in c ≡ granted_all (grants_in a) s.woken = λ i u n. s.wakes.grants u n i in
     subst (λ (g : Grants). AllBlocked g [] (cs' ++ rs')) (sym path) (served_blocked (grants_in a) [] (cs ++ rs) s.woken (cs' ++ rs') s.order)
+
+pub apart_both : (a c : Owners) (cs rs cs' rs' given given' : List Request) → ServedBoth a c cs rs cs' rs' given given' → IsApart (grants_in a) → IsApart (grants_in c)
+apart_both a c cs rs cs' rs' given given' s apart =
+    let path : grants_in c ≡ granted_all (grants_in a) s.woken = λ i u n. s.wakes.grants u n i in
+    subst (λ (g : Grants). IsApart g) (sym path) (apart_served (grants_in a) [] (cs ++ rs) s.woken (cs' ++ rs') s.order apart)
 
 -- the state once all was served, where l was the state before
 pub state_both : (a c : Owners) (l : Lock) (cs' rs' given given' : List Request) (victims : TxnNo → Bool)

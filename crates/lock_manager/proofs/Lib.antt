@@ -5,3 +5,7 @@ pub mod ServeLemmas
 pub mod BlockedLemmas
 pub mod TableLemmas
 pub mod BothLemmas
+pub mod TalliesLemmas
+pub mod NumberLemmas
+pub mod BlockingLemmas
+pub mod EscalateLemmas

@@ -86,6 +86,26 @@ put_name m n t o w name change put was changed u k =
     ∙ read_owner (λ z. modes_of z k) m t u (Some o) (λ v. cond (same_name name k) (change v) v) (grants_in m u k) (sym was)
     ∙ two_conds (same_txn t u) (same_name name k) (change (grants_in m u k)) (grants_in m u k)
 
+-- the names of one record that pass a test were changed
+pub put_names : (m n : Owners) (t : TxnNo) (o w : Owner) (test : LockName → Bool) (change : Modes → Modes)
+    → ((q : TxnNo) → lookup (same_txn q) n ≡ cond (same_txn t q) (Some w) (lookup (same_txn q) m))
+    → Some o ≡ lookup (same_txn t) m
+    → ((k : LockName) → modes_in w.holdings k ≡ cond (test k) (change (modes_in o.holdings k)) (modes_in o.holdings k))
+    → (u : TxnNo) (k : LockName) → grants_in n u k ≡ cond (same_txn t u && test k) (change (grants_in m u k)) (grants_in m u k)
+put_names m n t o w test change put was changed u k =
+    put_owner (λ z. modes_of z k) m n t (Some w) put u
+    ∙ ap (λ v. cond (same_txn t u) v (grants_in m u k)) (changed k)
+    ∙ read_owner (λ z. modes_of z k) m t u (Some o) (λ v. cond (test k) (change v) v) (grants_in m u k) (sym was)
+    ∙ two_conds (same_txn t u) (test k) (change (grants_in m u k)) (grants_in m u k)
+
+-- no names are released of who has no record
+pub no_names_released : (m : Owners) (t : TxnNo) (test : LockName → Bool) → None ≡ lookup (same_txn t) m → (u : TxnNo) (k : LockName) → grants_in m u k ≡ cond (same_txn t u && test k) no_modes (grants_in m u k)
+no_names_released m t test none u k =
+    let cases = λ (b : Bool) (e : (same_txn t u && test k) ≡ b).
+    (elim b as (λ x. (same_txn t u && test k) ≡ x → grants_in m u k ≡ cond x no_modes (grants_in m u k))
+    [ true ↦ λ s. ap (λ q. grants_in m q k) (sym (txn_eq t u (and_parts _ _ s).0)) ∙ ap (λ (o : Option Owner). modes_of o k) (sym none) | false ↦ λ _. refl ]) e in
+    cases (same_txn t u && test k) refl
+
 -- the sum after one record was changed
 pub sum_set : (t : TxnNo) (os : Owners) (o w : Owner) → lookup (same_txn t) os ≡ Some o → left_sum (set_value (same_txn t) os w) + o.left ≡ left_sum os + w.left
 sum_set t [] o w h = absurd (cc h)

@@ -14,6 +14,7 @@ use Rattle.lock_modes.specs.Lock.{Lock, Grants, queue, queued}
 use Rattle.lock_modes.specs.Modes.{is_held}
 use Rattle.lock_modes.specs.Waits.{IsBlocked, AllBlocked, waiting}
 use Rattle.lock_modes.specs.Proper.{IsRefused}
+use Rattle.lock_modes.specs.Apart.{IsApart}
 use Rattle.lock_modes.proofs.NamesLemmas.{txn_refl, txn_equiv}
 use Rattle.lock_manager.specs.Owners.{Owners, grants_in, left_in, left_of, victim_in, waits_in, left_sum, Changes}
 use Rattle.lock_manager.specs.Serve.{is_among, Waiters}
@@ -70,6 +71,9 @@ grants_path os' g same = λ i u n. same u n i
 
 pub settled_as : (os' : Owners) (g : Grants) (b rs : List Request) → ((u : TxnNo) (n : LockName) → grants_in os' u n ≡ g u n) → AllBlocked g b rs → AllBlocked (grants_in os') b rs
 settled_as os' g b rs same k = subst (λ (x : Grants). AllBlocked x b rs) (sym (grants_path os' g same)) k
+
+pub apart_as : (os' : Owners) (g : Grants) → ((u : TxnNo) (n : LockName) → grants_in os' u n ≡ g u n) → IsApart g → IsApart (grants_in os')
+apart_as os' g same k = subst (λ (x : Grants). IsApart x) (sym (grants_path os' g same)) k
 
 -- two states with equal parts
 pub lock_path : (a b : Lock) → a.grants ≡ b.grants → a.conversions ≡ b.conversions → a.requests ≡ b.requests → a.victims ≡ b.victims → a ≡ b

@@ -1,6 +1,9 @@
+pub mod ByName
+pub mod Tallies
 pub mod Holdings
 pub mod Owners
 pub mod OwnerSteps
 pub mod Serve
+pub mod Blocking
 pub mod Table
 pub mod Room

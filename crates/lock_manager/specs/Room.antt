@@ -9,6 +9,7 @@ use Rattle.std.specs.declared.collections.VecDeque.{VecDeque}
 use Rattle.std.specs.VecDeque.{deque_len, deque_capacity}
 use Rattle.lock_modes.specs.declared.entry.Request.{Request}
 use Rattle.lock_modes.specs.Waits.{AllBlocked}
+use Rattle.lock_modes.specs.Apart.{IsApart}
 use Rattle.lock_manager.specs.Owners.{Owners}
 use Rattle.lock_manager.specs.Serve.{Waiters}
 
@@ -26,6 +27,9 @@ Waiters-prop os (r ∷ rs) = λ x y. λ i. (Bool-set _ _ x.0 y.0 i, Bool-set _ _
 pub AllBlocked-prop : (g : Grants) (b rs : List Request) → IsProp (AllBlocked g b rs)
 AllBlocked-prop g b [] = Unit-prop
 AllBlocked-prop g b (r ∷ rs) = λ x y. λ i. ((λ free. ⊥_prop (x.0 free) (y.0 free) i), AllBlocked-prop g (b ++ r ∷ []) rs x.1 y.1 i)
+
+pub IsApart-prop : (g : Grants) → IsProp (IsApart g)
+IsApart-prop g = λ x y. λ i t u n a b other h k. Bool-set _ _ (x t u n a b other h k) (y t u n a b other h k) i
 
 -- no list needs more room than before, in the same room
 pub record FitsAsBefore {Z : Type 0} (cs rs : Vec Request Z) (ws : VecDeque Request Z) (cs' rs' : Vec Request Z) (ws' : VecDeque Request Z) : Type 0 where

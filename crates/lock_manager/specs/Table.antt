@@ -7,12 +7,13 @@ use Rattle.lock_modes.specs.Lock.{Lock, queue, apply_all}
 use Rattle.std.specs.List.{list_any}
 use Rattle.lock_modes.specs.declared.mode.Mode.{Mode}
 use Rattle.lock_modes.specs.declared.name.LockName.{LockName}
-use Rattle.lock_modes.specs.Modes.{hinders, is_covered}
+use Rattle.lock_modes.specs.Modes.{hinders, is_covered, writes, is_ranged}
 use Rattle.lock_manager.specs.Serve.{contests}
-use Rattle.lock_modes.specs.Names.{same_txn}
+use Rattle.lock_modes.specs.Names.{same_txn, is_row_name}
 use Rattle.lock_modes.specs.Proper.{IsRefused, MayHave}
 use Rattle.lock_modes.specs.Serving.{Serves, grants_of}
 use Rattle.lock_modes.specs.Waits.{earlier, blocks}
+use Rattle.lock_modes.specs.Escalation.{released_rows, IsAllRows, escalation}
 use Rattle.lock_manager.specs.declared.table.LockTable.{LockTable}
 use Rattle.lock_manager.specs.declared.tried.Tried.{Tried}
 use Rattle.lock_manager.specs.declared.tried.Tried.TheVariants.{Granted, Conflict}
@@ -51,6 +52,17 @@ pub record Gives (old new : LockTable) (es : List LockEvent) : Type 0 where
   pub order : Serves (apply_all (lock old) es).grants [] (queue (apply_all (lock old) es)) given (queue (lock new))
   pub events : lock new ≡ apply_all (apply_all (lock old) es) (grants_of given)
 
+-- a transaction gave back its rows of a table, and then each queued request that could be granted was granted, in order
+pub record GivesRows (old new : LockTable) (t : TxnNo) (table : ℕ) : Type 0 where
+  pub given : List Request
+  pub noted : woken_of new ≡ woken_of old ++ given
+  pub order : Serves (released_rows (lock old).grants t table) [] (queue (lock old)) given (queue (lock new))
+  pub events : lock new ≡ apply_all (record (lock old) { grants = released_rows (lock old).grants t table }) (grants_of given)
+
+-- a table's mode was granted and its rows were given back, in whatever order, and then queued requests were granted
+abbrev pub Escalates : LockTable → LockTable → TxnNo → ℕ → Mode → Type 0
+Escalates old new t table mode = (names : List LockName) → IsAllRows (lock old) t table names → Gives old new (escalation t table mode names)
+
 -- one name less is left to a transaction, unless it has something on the name already
 abbrev pub IsSpent : LockTable → LockTable → TxnNo → Bool → Type 0
 IsSpent old new t held = (u : TxnNo) → spare_of new u ≡ (if same_txn t u && not held then spare_of old u - 1 else spare_of old u)
@@ -59,3 +71,11 @@ IsSpent old new t held = (u : TxnNo) → spare_of new u ≡ (if same_txn t u && 
 pub record IsUncontested (l : Lock) (n : LockName) (m : Mode) : Type 0 where
   pub granted : (h : TxnNo) → hinders (l.grants h n) m ≡ false
   pub queued : list_any (contests n m) (queue l) ≡ false
+
+-- a transaction has a mode of one who changes on a row name of a table
+abbrev pub WritesIn : Lock → TxnNo → ℕ → Type 0
+WritesIn l t table = (n : LockName) × (is_row_name table n ≡ true) × (writes (l.grants t n) ≡ true)
+
+-- a transaction has a mode that also holds the gap
+abbrev pub HoldsGap : Lock → TxnNo → Type 0
+HoldsGap l t = (n : LockName) × (is_ranged (l.grants t n) ≡ true)

@@ -1,9 +1,12 @@
 //! Grants and queues of locks.
 #![tactic(auto)]
 
+pub mod blocking;
 pub mod holdings;
+pub mod names;
 pub mod owner;
 pub mod owners;
 pub mod queue;
 pub mod table;
+pub mod tallies;
 pub mod tried;

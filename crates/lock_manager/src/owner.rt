@@ -3,7 +3,7 @@
 ghost use Rattle.std.specs.Prelude.{◌≡◌, ◌≤◌, ◌<◌, ◌+◌, ◌-◌, ◌⊎◌, true, false, is_ok, if◌then◌else◌};
 ghost use Rattle.std.specs.HashMap.{spare};
 ghost use Rattle.lock_modes.specs.Modes.{with_mode, no_modes, is_held};
-ghost use Rattle.lock_modes.specs.Names.{same_name};
+ghost use Rattle.lock_modes.specs.Names.{same_name, is_row_name};
 ghost use Rattle.lock_modes.specs.declared.name.LockName.{LockName};
 ghost use Rattle.lock_manager.specs.Holdings.{modes_in};
 
@@ -22,6 +22,7 @@ pub struct Owner {
     pub victim: bool,
     pub holdings: Holdings,
     ghost room: { left + (if waits then 1 else 0) ≤ spare holdings.modes },
+    ghost tables: { left + (if waits then 1 else 0) ≤ spare holdings.tallies.tables },
 }
 
 impl Owner {
@@ -86,6 +87,16 @@ impl Owner {
         ensures victim { self.new.victim ≡ self.old.victim }
     {
         self.holdings.remove(name);
+    }
+
+    /// Takes away all that it has on the rows, and places before a first entry, of a table.
+    pub fn release_rows(&mut self, table: u32)
+        ensures exact { (k : LockName) → modes_in self.new.holdings k ≡ (if is_row_name table k then no_modes else modes_in self.old.holdings k) }
+        ensures left { self.new.left ≡ self.old.left }
+        ensures waits { self.new.waits ≡ self.old.waits }
+        ensures victim { self.new.victim ≡ self.old.victim }
+    {
+        self.holdings.remove_rows(table);
     }
 
     /// Notes it as a victim.

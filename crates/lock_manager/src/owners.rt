@@ -2,9 +2,11 @@
 
 ghost use Rattle.std.specs.Prelude.{◌≡◌, ◌≤◌, ◌<◌, ◌+◌, ℕ, true, false, ◌⊎◌, ◌-◌, ◌&&◌, not, OnOk, OnErr, Some, None, IsSome, is_ok, if◌then◌else◌, MatchOption, length};
 ghost use Rattle.dby_types.specs.declared.number.TxnNo.{TxnNo};
-ghost use Rattle.lock_modes.specs.Modes.{hinders, is_held};
+ghost use Rattle.lock_modes.specs.Modes.{hinders, is_held, is_ranged, writes};
+ghost use Rattle.lock_modes.specs.Waits.{IsNumber};
 ghost use Rattle.lock_modes.specs.Lock.{granted, released, released_all};
-ghost use Rattle.lock_modes.specs.Names.{same_name, same_txn};
+ghost use Rattle.lock_modes.specs.Escalation.{released_rows};
+ghost use Rattle.lock_modes.specs.Names.{same_name, same_txn, is_row_name};
 ghost use Rattle.lock_manager.specs.Owners.{owner_of, grants_in, left_in, victim_in, waits_in, left_sum, Changes, IsGone, IsSame};
 ghost use Rattle.lock_modes.specs.declared.name.LockName.{LockName};
 
@@ -113,6 +115,18 @@ pub fn release(owners: &mut Owners, txn: TxnNo, name: LockName)
     }
 }
 
+/// Takes away all that a transaction has on the rows, and places before a first entry, of a table.
+pub fn release_rows(owners: &mut Owners, txn: TxnNo, table: u32)
+    ensures changes { Changes owners.old.entries owners.new.entries txn (released_rows (grants_in owners.old.entries) txn table) }
+    ensures room { left_in owners.new.entries txn ≡ left_in owners.old.entries txn }
+    ensures same { waits_in owners.new.entries txn ≡ waits_in owners.old.entries txn }
+    ensures victim { victim_in owners.new.entries txn ≡ victim_in owners.old.entries txn }
+{
+    if let Some(owner) = owners.get_mut(&txn) {
+        owner.release_rows(table);
+    }
+}
+
 /// Notes a waiting transaction as a victim.
 pub fn choose(owners: &mut Owners, txn: TxnNo)
     requires { waits_in owners.old.entries txn ≡ true }
@@ -171,4 +185,44 @@ pub fn holder_hinders(owners: &Owners, name: LockName, mode: Mode) -> Option<Txn
         }
     }
     None
+}
+
+/// On how many names a transaction has anything.
+pub fn count(owners: &Owners, txn: TxnNo) -> u64
+    ensures exact { IsNumber (λ n. is_held (grants_in owners.now.entries txn n)) result }
+{
+    match owners.get(&txn) {
+        Some(owner) => owner.holdings.count(),
+        None => 0,
+    }
+}
+
+/// On how many rows and places before a first entry of a table a transaction has anything.
+pub fn row_count(owners: &Owners, txn: TxnNo, table: u32) -> u64
+    ensures exact { IsNumber (λ n. is_row_name table n && is_held (grants_in owners.now.entries txn n)) result }
+{
+    match owners.get(&txn) {
+        Some(owner) => owner.holdings.row_count(table),
+        None => 0,
+    }
+}
+
+/// On how many rows and places before a first entry of a table a transaction has a mode of one who changes.
+pub fn written_count(owners: &Owners, txn: TxnNo, table: u32) -> u64
+    ensures exact { IsNumber (λ n. is_row_name table n && writes (grants_in owners.now.entries txn n)) result }
+{
+    match owners.get(&txn) {
+        Some(owner) => owner.holdings.written_count(table),
+        None => 0,
+    }
+}
+
+/// On how many names a transaction has a mode that also holds the gap.
+pub fn ranged_count(owners: &Owners, txn: TxnNo) -> u64
+    ensures exact { IsNumber (λ n. is_ranged (grants_in owners.now.entries txn n)) result }
+{
+    match owners.get(&txn) {
+        Some(owner) => owner.holdings.ranged_count(),
+        None => 0,
+    }
 }

@@ -21,7 +21,7 @@ use std::alloc::AllocError;
 use std::collections::VecDeque;
 
 /// Whether a request is in the way of another on the same name.
-fn is_opposed(q: Request, r: Request) -> bool
+pub fn is_opposed(q: Request, r: Request) -> bool
     ensures exact { result ≡ opposes q r }
 {
     is_same_name(q.name, r.name) && !compatible(q.mode, r.mode)

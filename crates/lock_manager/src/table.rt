@@ -1,20 +1,23 @@
 //! The lock table: who has which locks, and who waits.
 
-ghost use Rattle.std.specs.Prelude.{◌≡◌, ◌⊎◌, ◌≤◌, ◌<◌, ◌+◌, ◌-◌, ◌&&◌, ◌||◌, ℕ, true, false, not, [], ◌∷◌, ◌++◌, Some, None, IsSome, OnOk, OnErr, if◌then◌else◌, MatchOption, IsTrue, ◌↔◌, is_ok};
+ghost use Rattle.std.specs.Prelude.{◌≡◌, ◌⊎◌, ◌≤◌, ◌<◌, ◌+◌, ◌-◌, ◌&&◌, ◌||◌, ℕ, true, false, not, [], ◌∷◌, ◌++◌, Some, None, IsSome, OnOk, OnErr, if◌then◌else◌, MatchOption, IsTrue, ◌↔◌, is_ok, length};
 ghost use Rattle.dby_types.specs.declared.number.TxnNo.{TxnNo};
-ghost use Rattle.lock_modes.specs.Names.{same_txn};
+ghost use Rattle.lock_modes.specs.Names.{same_txn, is_row_name};
 ghost use Rattle.lock_modes.specs.Lock.{no_locks, apply, request, has_grant, queue};
-ghost use Rattle.lock_modes.specs.Waits.{waiting, IsSettled, IsBlocked, AllBlocked};
-ghost use Rattle.lock_modes.specs.Proper.{IsRefused};
+ghost use Rattle.lock_modes.specs.Waits.{waiting, IsSettled, IsBlocked, AllBlocked, IsNumber};
+ghost use Rattle.lock_modes.specs.Proper.{IsRefused, MayHave};
+ghost use Rattle.lock_modes.specs.Apart.{IsApart};
 ghost use Rattle.lock_modes.specs.declared.event.LockEvent.TheVariants.{Granted, Queued, Released, ReleasedAll, Chosen};
-ghost use Rattle.lock_manager.specs.Room.{HasRoom, Waiters-prop, AllBlocked-prop};
+ghost use Rattle.lock_manager.specs.Room.{HasRoom, Waiters-prop, AllBlocked-prop, IsApart-prop};
 ghost use Rattle.lock_manager.specs.Owners.{left_sum, waits_in, grants_in};
 ghost use Rattle.lock_manager.specs.Serve.{Waiters, is_among};
 
+use crate::blocking::{least_blocker, request_of};
 use crate::owners::{self, Owners};
 use crate::queue::{drop_requests, in_way, is_contested, make_room, serve_both, waits};
 use crate::tried::Tried;
 use dby_types::number::TxnNo;
+use lock_modes::cycle::Edge;
 use lock_modes::entry::Request;
 use lock_modes::mode::Mode;
 use lock_modes::name::LockName;
@@ -36,10 +39,13 @@ pub struct LockTable {
     ghost waiters: { Waiters owners.entries (conversions.items ++ requests.items) } by { Waiters-prop _ _ },
     ghost only: { (t : TxnNo) → waits_in owners.entries t ≡ is_among t (conversions.items ++ requests.items) },
     ghost settled: { AllBlocked (grants_in owners.entries) [] (conversions.items ++ requests.items) } by { AllBlocked-prop _ _ _ },
+    ghost apart: { IsApart (grants_in owners.entries) } by { IsApart-prop _ },
 }
 
 impl LockTable {
-    ghost use Rattle.lock_manager.specs.Table.{lock, spare_of, woken_of, IsCause, IsHindrance, IsSpent, IsUncontested, Gives};
+    ghost use Rattle.lock_modes.specs.declared.name.LockName.TheVariants.{Table};
+    ghost use Rattle.lock_manager.specs.Blocking.{IsBlocker, IsUnblocked};
+    ghost use Rattle.lock_manager.specs.Table.{lock, spare_of, woken_of, IsCause, IsHindrance, IsSpent, IsUncontested, Gives, WritesIn, HoldsGap, GivesRows, Escalates};
 
     /// A table without locks.
     pub fn new(alloc: Global) -> LockTable
@@ -55,6 +61,76 @@ impl LockTable {
             requests: Vec::new(alloc),
             woken: VecDeque::new(alloc),
         }
+    }
+
+    /// What holds of every table: grants of two transactions on one name never conflict, and no request that could be granted
+    /// waits. The call does nothing.
+    pub fn laws(&self)
+        ensures apart { IsApart (lock self.now).grants }
+        ensures settled { IsSettled (lock self.now) }
+    {}
+
+    /// For how many names more a transaction may ask.
+    pub fn spare(&self, t: TxnNo) -> u32
+        ensures exact { result ≡ spare_of self.now t }
+    {
+        owners::left(&self.owners, t)
+    }
+
+    /// How many requests wait.
+    pub fn waiters(&self) -> usize
+        ensures exact { result ≡ length (queue (lock self.now)) }
+    {
+        self.conversions.len() + self.requests.len()
+    }
+
+    /// The edge from a transaction to the least one, above a given number, for which it waits.
+    pub fn blocker(&self, t: TxnNo, above: Option<TxnNo>) -> Option<Edge>
+        ensures edge { MatchOption result (IsUnblocked (lock self.now) t above) (λ e. IsBlocker (lock self.now) t above e) }
+    {
+        let Some(r) = request_of(&self.conversions, &self.requests, t) else {
+            return None;
+        };
+        let Some(holder) = least_blocker(&self.owners, &self.conversions, &self.requests, r, above)
+        else {
+            return None;
+        };
+        let locks = owners::count(&self.owners, t);
+        Some(Edge {
+            waiter: t,
+            holder,
+            name: r.name,
+            asked: r.mode,
+            locks,
+        })
+    }
+
+    /// On how many names a transaction has a grant.
+    pub fn count(&self, t: TxnNo) -> u64
+        ensures exact { IsNumber (λ n. has_grant (lock self.now).grants t n) result }
+    {
+        owners::count(&self.owners, t)
+    }
+
+    /// On how many rows and places before a first entry of a table a transaction has a grant.
+    pub fn row_count(&self, t: TxnNo, table: u32) -> u64
+        ensures exact { IsNumber (λ n. is_row_name table n && has_grant (lock self.now).grants t n) result }
+    {
+        owners::row_count(&self.owners, t, table)
+    }
+
+    /// Whether a transaction has a mode of one who changes on a row, or a place before a first entry, of a table.
+    pub fn writes(&self, t: TxnNo, table: u32) -> bool
+        ensures exact { IsTrue result ↔ WritesIn (lock self.now) t table }
+    {
+        owners::written_count(&self.owners, t, table) > 0
+    }
+
+    /// Whether a transaction has a mode that also holds the gap, on any name.
+    pub fn ranged(&self, t: TxnNo) -> bool
+        ensures exact { IsTrue result ↔ HoldsGap (lock self.now) t }
+    {
+        owners::ranged_count(&self.owners, t) > 0
     }
 
     /// Whether a transaction was chosen as a victim.
@@ -239,6 +315,46 @@ impl LockTable {
         );
     }
 
+    /// Asks for a mode on a table on which the transaction has something already, and has it at once or not at all. Then it gives
+    /// back its rows, and places before a first entry, of the table, and grants what can be granted then.
+    pub fn escalate(&mut self, t: TxnNo, table: u32, mode: Mode) -> Tried
+        requires idle { waiting (lock self.old) t ≡ None }
+        requires held { has_grant (lock self.old).grants t (Table table) ≡ true }
+        ensures cause { IsCause (lock self.old) (request t (Table table) mode) result }
+        ensures ok { result ≡ Tried.Granted → Escalates self.old self.new t table mode }
+        ensures err { (h : TxnNo) → result ≡ Tried.Conflict h → lock self.new ≡ lock self.old }
+        ensures woken { (h : TxnNo) → result ≡ Tried.Conflict h → woken_of self.new ≡ woken_of self.old }
+        ensures room { (u : TxnNo) → spare_of self.new u ≡ spare_of self.old u }
+    {
+        let r = Request {
+            txn: t,
+            name: LockName::Table(table),
+            mode,
+        };
+        match self.hindrance(r) {
+            Some(h) => Tried::Conflict(h),
+            None => {
+                self.grant(r);
+                self.give_rows(t, table);
+                Tried::Granted
+            }
+        }
+    }
+
+    /// Gives back all rows of a table, and grants what can be granted then.
+    fn give_rows(&mut self, t: TxnNo, table: u32)
+        ensures ok { GivesRows self.old self.new t table }
+        ensures room { (u : TxnNo) → spare_of self.new u ≡ spare_of self.old u }
+    {
+        owners::release_rows(&mut self.owners, t, table);
+        serve_both(
+            &mut self.owners,
+            &mut self.conversions,
+            &mut self.requests,
+            &mut self.woken,
+        );
+    }
+
     /// Gives back all that a transaction has and asks for, with its spare and its note as a victim, and grants what can be
     /// granted then.
     pub fn release_all(&mut self, t: TxnNo)
@@ -262,6 +378,7 @@ impl LockTable {
     /// Adds a mode to what a transaction has.
     fn grant(&mut self, r: Request)
         requires idle { waiting (lock self.old) r.txn ≡ None }
+        requires may { MayHave (lock self.old) r }
         requires room { (has_grant (lock self.old).grants r.txn r.name ≡ true) ⊎ (0 < spare_of self.old r.txn) }
         ensures ok { lock self.new ≡ apply (lock self.old) (Granted r.txn r.name r.mode) }
         ensures room { IsSpent self.old self.new r.txn (has_grant (lock self.old).grants r.txn r.name) }

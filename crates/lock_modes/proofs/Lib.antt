@@ -1,2 +1,5 @@
 pub mod ModesLemmas
 pub mod NamesLemmas
+pub mod TablesLemmas
+pub mod ApartLemmas
+pub mod EscalationLemmas

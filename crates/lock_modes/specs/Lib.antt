@@ -4,3 +4,5 @@ pub mod Lock
 pub mod Waits
 pub mod Proper
 pub mod Serving
+pub mod Apart
+pub mod Escalation

@@ -6,6 +6,7 @@
 pub mod cycle;
 pub mod entry;
 pub mod event;
+pub mod laws;
 pub mod mode;
 pub mod modes;
 pub mod name;

@@ -2,6 +2,7 @@ use Rattle.std.proofs.Common.{◌++◌, ◌∙◌}
 use Rattle.lock_manager.specs.Table.{lock}
 use Rattle.lock_manager.specs.Owners.{grants_in}
 use Rattle.lock_manager.proofs.TableLemmas.{keep_total, keep_waits, waiters_same, settled_as, among}
+use Rattle.lock_manager.proofs.TableLemmas.{apart_as}
 use Rattle.lock_manager.proofs.table.LockTable.choose.Goals as goal
 
 pub invariant_of-self : goal.invariant_of-self
@@ -15,6 +16,7 @@ invariant_of-self c =
       waiters = waiters_same s.owners.entries c.choose.new.owners.entries waits q s.waiters;
       only = λ u. waits u ∙ s.only u;
       settled = settled_as c.choose.new.owners.entries (grants_in s.owners.entries) _ q c.choose.ensures.changes.grants_are s.settled;
+      apart = apart_as c.choose.new.owners.entries (grants_in s.owners.entries) c.choose.ensures.changes.grants_are s.apart;
     }
 
 pub choose-requires : goal.choose-requires

@@ -7,6 +7,9 @@ use Rattle.lock_manager.specs.Owners.{grants_in}
 use Rattle.lock_manager.specs.Table.{lock}
 use Rattle.lock_manager.proofs.BlockedLemmas.{all_blocked_more, without_none}
 use Rattle.lock_manager.proofs.TableLemmas.{keep_waits, keep_victims, waiters_same, settled_as, spent_total, less_le, lock_path, grants_path, not_among, not_among_parts}
+use Rattle.lock_manager.proofs.TableLemmas.{apart_as}
+use Rattle.lock_modes.proofs.ApartLemmas.{apart_may}
+use Rattle.lock_modes.specs.Waits.{earlier}
 use Rattle.lock_manager.proofs.table.LockTable.grant.Goals as goal
 
 pub invariant_of-self : goal.invariant_of-self
@@ -25,6 +28,7 @@ invariant_of-self c =
       waiters = waiters_same s.owners.entries c.grant.new.owners.entries waits q s.waiters;
       only = λ u. waits u ∙ s.only u;
       settled = settled_as c.grant.new.owners.entries after _ q c.grant.ensures.changes.grants_are (all_blocked_more (grants_in s.owners.entries) c.args.r _ q s.settled);
+      apart = apart_as c.grant.new.owners.entries after c.grant.ensures.changes.grants_are (apart_may (grants_in s.owners.entries) (earlier (lock s) c.args.r) c.args.r s.apart c.requires.may);
     }
 
 pub returns-clause-ok : goal.returns-clause-ok

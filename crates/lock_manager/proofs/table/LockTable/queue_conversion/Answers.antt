@@ -7,6 +7,7 @@ use Rattle.lock_manager.specs.Serve.{Waiters, is_among}
 use Rattle.lock_manager.specs.Table.{lock}
 use Rattle.lock_manager.proofs.BlockedLemmas.{queued_conversion}
 use Rattle.lock_manager.proofs.TableLemmas.{keep_victims, settled_as, lock_path, grants_path, not_among, waiters_insert, only_insert, set_aside, less_left}
+use Rattle.lock_manager.proofs.TableLemmas.{apart_as}
 use Rattle.lock_manager.proofs.table.LockTable.queue_conversion.Goals as goal
 
 pub invariant_of-self : goal.invariant_of-self
@@ -25,6 +26,7 @@ invariant_of-self c =
       waiters = subst (λ (x : List Request). Waiters os' (x ++ s.requests.items)) (sym items) (waiters_insert os os' c.args.r c.wait.ensures.changes.others_wait c.wait.ensures.same s.conversions.items s.requests.items s.waiters none);
       only = subst (λ (x : List Request). (u : TxnNo) → waits_in os' u ≡ is_among u (x ++ s.requests.items)) (sym items) (only_insert os os' c.args.r c.wait.ensures.changes.others_wait c.wait.ensures.same s.conversions.items s.requests.items s.only);
       settled = subst (λ (x : List Request). AllBlocked (grants_in os') [] (x ++ s.requests.items)) (sym items) (settled_as os' g [] _ c.wait.ensures.changes.grants_are (queued_conversion g s.conversions.items s.requests.items c.args.r s.settled c.requires.blocked));
+      apart = apart_as os' g c.wait.ensures.changes.grants_are s.apart;
     }
 
 pub push_reserved-requires : goal.push_reserved-requires

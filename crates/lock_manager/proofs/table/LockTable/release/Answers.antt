@@ -6,6 +6,9 @@ use Rattle.lock_manager.specs.Owners.{grants_in, victim_in}
 use Rattle.lock_manager.specs.Table.{lock}
 use Rattle.lock_manager.proofs.BothLemmas.{only_left, settled_both, state_both}
 use Rattle.lock_manager.proofs.TableLemmas.{keep_total, keep_waits, keep_lefts, keep_victims, waiters_same, grants_path}
+use Rattle.lock_manager.proofs.TableLemmas.{apart_as}
+use Rattle.lock_manager.proofs.BothLemmas.{apart_both}
+use Rattle.lock_modes.proofs.ApartLemmas.{apart_released}
 use Rattle.lock_manager.proofs.table.LockTable.release.Goals as goal
 
 pub serve_both-requires-clause-waiters : goal.serve_both-requires-clause-waiters
@@ -37,6 +40,7 @@ invariant_of-self c =
       waiters = c.serve_both.ensures.served.waiters;
       only = only_left os1 os2 s.conversions.items s.requests.items c.serve_both.new.conversions.items c.serve_both.new.requests.items s.woken.items c.serve_both.new.woken.items w1 (λ u. waits u ∙ s.only u) c.serve_both.ensures.served;
       settled = settled_both os1 os2 s.conversions.items s.requests.items c.serve_both.new.conversions.items c.serve_both.new.requests.items s.woken.items c.serve_both.new.woken.items c.serve_both.ensures.served;
+      apart = apart_both os1 os2 s.conversions.items s.requests.items c.serve_both.new.conversions.items c.serve_both.new.requests.items s.woken.items c.serve_both.new.woken.items c.serve_both.ensures.served (apart_as os1 after c.release.ensures.changes.grants_are (apart_released (grants_in s.owners.entries) c.args.t c.args.name s.apart));
     }
 
 pub returns-clause-ok : goal.returns-clause-ok

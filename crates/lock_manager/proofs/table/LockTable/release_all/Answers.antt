@@ -12,6 +12,9 @@ use Rattle.lock_manager.specs.Owners.{waits_in}
 use Rattle.lock_manager.specs.Table.{lock}
 use Rattle.lock_manager.proofs.BothLemmas.{waiters_gone, only_gone, only_left, settled_both, state_both}
 use Rattle.lock_manager.proofs.TableLemmas.{grants_path}
+use Rattle.lock_manager.proofs.TableLemmas.{apart_as}
+use Rattle.lock_manager.proofs.BothLemmas.{apart_both}
+use Rattle.lock_modes.proofs.ApartLemmas.{apart_released_all}
 use Rattle.lock_manager.proofs.table.LockTable.release_all.Goals as goal
 
 pub serve_both-requires-clause-waiters : goal.serve_both-requires-clause-waiters
@@ -58,6 +61,7 @@ invariant_of-self c =
       waiters = served.waiters;
       only = only_left os1 os2 cs rs c.serve_both.new.conversions.items c.serve_both.new.requests.items s.woken.items c.serve_both.new.woken.items w1 only1 served;
       settled = settled_both os1 os2 cs rs c.serve_both.new.conversions.items c.serve_both.new.requests.items s.woken.items c.serve_both.new.woken.items served;
+      apart = apart_both os1 os2 cs rs c.serve_both.new.conversions.items c.serve_both.new.requests.items s.woken.items c.serve_both.new.woken.items served (apart_as os1 (released_all (grants_in os) c.args.t) c.remove.ensures.grants (apart_released_all (grants_in os) c.args.t s.apart));
     }
 
 pub returns-clause-ok : goal.returns-clause-ok

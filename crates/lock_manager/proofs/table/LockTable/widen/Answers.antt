@@ -3,6 +3,7 @@ use Rattle.dby_types.specs.declared.number.TxnNo.{TxnNo}
 use Rattle.lock_modes.specs.declared.name.LockName.{LockName}
 use Rattle.lock_manager.specs.Owners.{grants_in, waits_in, victim_in, left_in}
 use Rattle.lock_manager.proofs.TableLemmas.{keep_total, keep_waits, keep_victims, kept_waiters, kept_only, kept_settled, more_total, lock_path}
+use Rattle.lock_manager.proofs.TableLemmas.{apart_as}
 use Rattle.lock_manager.proofs.table.LockTable.widen.Goals as goal
 
 pub invariant_of-self-in-Break-branch-2 : goal.invariant_of-self-in-Break-branch-2
@@ -18,6 +19,7 @@ invariant_of-self-in-Break-branch-2 c =
       waiters = kept_waiters os os1 s.conversions.items s.requests.items c.make_room.new.conversions.items c.make_room.new.requests.items same1.waits grows.conversions_are grows.requests_are s.waiters;
       only = kept_only os os1 s.conversions.items s.requests.items c.make_room.new.conversions.items c.make_room.new.requests.items same1.waits grows.conversions_are grows.requests_are s.only;
       settled = kept_settled os os1 s.conversions.items s.requests.items c.make_room.new.conversions.items c.make_room.new.requests.items same1.grants grows.conversions_are grows.requests_are s.settled;
+      apart = apart_as os1 (grants_in os) same1.grants s.apart;
     }
 
 pub invariant_of-self-in-Err-1 : goal.invariant_of-self-in-Err-1
@@ -37,6 +39,7 @@ invariant_of-self-in-Err-1 c =
       waiters = kept_waiters os os2 s.conversions.items s.requests.items c.make_room.new.conversions.items c.make_room.new.requests.items waits2 grows.conversions_are grows.requests_are s.waiters;
       only = kept_only os os2 s.conversions.items s.requests.items c.make_room.new.conversions.items c.make_room.new.requests.items waits2 grows.conversions_are grows.requests_are s.only;
       settled = kept_settled os os2 s.conversions.items s.requests.items c.make_room.new.conversions.items c.make_room.new.requests.items grants2 grows.conversions_are grows.requests_are s.settled;
+      apart = apart_as os2 (grants_in os) grants2 s.apart;
     }
 
 pub invariant_of-self-in-Ok : goal.invariant_of-self-in-Ok
@@ -59,6 +62,7 @@ invariant_of-self-in-Ok c =
       waiters = kept_waiters os os2 s.conversions.items s.requests.items c.make_room.new.conversions.items c.make_room.new.requests.items waits2 grows.conversions_are grows.requests_are s.waiters;
       only = kept_only os os2 s.conversions.items s.requests.items c.make_room.new.conversions.items c.make_room.new.requests.items waits2 grows.conversions_are grows.requests_are s.only;
       settled = kept_settled os os2 s.conversions.items s.requests.items c.make_room.new.conversions.items c.make_room.new.requests.items grants2 grows.conversions_are grows.requests_are s.settled;
+      apart = apart_as os2 (grants_in os) grants2 s.apart;
     }
 
 pub returns-in-Ok-clause-same : goal.returns-in-Ok-clause-same

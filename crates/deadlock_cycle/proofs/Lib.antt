@@ -1,0 +1,4 @@
+pub mod PathLemmas
+pub mod SearchLemmas
+pub mod RingLemmas
+pub mod ChoiceLemmas

@@ -1,0 +1,14 @@
+use Rattle.lock_manager.specs.Table.{lock}
+use Rattle.deadlock_cycle.proofs.RingLemmas.{ends}
+use Rattle.deadlock_cycle.proofs.SearchLemmas.{goes_back}
+use Rattle.deadlock_cycle.proofs.search.back.Goals as goal
+
+pub returns-then-is_empty : goal.returns-then-is_empty
+returns-then-is_empty c =
+    let s = c.args.s.now in
+    record { step = ends (lock c.args.l.now) c.args.t s.path s.seen s.node s.above c.requires.searching c.requires.none (c.is_empty.ensures.0 c.if-is_empty.true) }
+
+pub returns : goal.returns
+returns c =
+    let s = c.args.s.now in
+    record { step = goes_back (lock c.args.l.now) c.args.t s.path c.pop-edge.new.self s.seen s.node s.above c.pop-edge.result c.requires.searching c.requires.none c.pop-edge.ensures }

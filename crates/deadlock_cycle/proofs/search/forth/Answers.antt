@@ -1,0 +1,20 @@
+use Rattle.std.proofs.Common.{◌∙◌, sym}
+use Rattle.lock_manager.specs.Table.{lock}
+use Rattle.deadlock_cycle.proofs.RingLemmas.{closes}
+use Rattle.deadlock_cycle.proofs.SearchLemmas.{path_fits, skips}
+use Rattle.deadlock_cycle.proofs.search.forth.Goals as goal
+
+pub push-requires : goal.push-requires
+push-requires c =
+    let s = c.args.s.now in
+    path_fits (lock c.args.l.now) c.args.t s.path s.seen s.node s.above c.requires.searching
+
+pub returns-then-is_same_txn : goal.returns-then-is_same_txn
+returns-then-is_same_txn c =
+    let s = c.args.s.now in
+    record { step = closes (lock c.args.l.now) c.args.t s.path c.push.new.self s.seen s.node s.above c.args.edge c.requires.searching c.requires.edge (sym c.is_same_txn.ensures.exact ∙ c.if-is_same_txn.true) c.push.ensures }
+
+pub returns-then-is_passed : goal.returns-then-is_passed
+returns-then-is_passed c =
+    let s = c.args.s.now in
+    record { step = skips (lock c.args.l.now) c.args.t s.path s.seen s.node s.above c.args.edge c.requires.searching c.requires.edge (sym c.is_same_txn.ensures.exact ∙ c.if-is_same_txn.false) (sym c.is_passed.ensures.exact ∙ c.if-is_passed.true) c.bounded.ensures.exact.1 }

@@ -1,0 +1,67 @@
+use Rattle.std.proofs.Common.{◌++◌, ◌∙◌, [], ap, sym, subst, arith}
+use Rattle.lock_modes.specs.Lock.{Grants}
+use Rattle.lock_modes.specs.Serving.{Serves}
+use Rattle.lock_manager.specs.Owners.{grants_in, victim_in}
+use Rattle.lock_manager.specs.Table.{lock}
+use Rattle.lock_manager.proofs.BothLemmas.{only_left, settled_both, state_both}
+use Rattle.lock_manager.proofs.TableLemmas.{keep_total, keep_waits, keep_lefts, keep_victims, waiters_same, grants_path}
+use Rattle.lock_manager.proofs.TableLemmas.{apart_as}
+use Rattle.lock_manager.proofs.BothLemmas.{apart_both}
+use Rattle.lock_modes.proofs.EscalationLemmas.{apart_released_rows}
+use Rattle.lock_modes.specs.Escalation.{released_rows}
+use Rattle.lock_manager.proofs.table.LockTable.give_rows.Goals as goal
+
+pub serve_both-requires-clause-waiters : goal.serve_both-requires-clause-waiters
+serve_both-requires-clause-waiters c =
+    let s = c.args.self.now in
+    let after = released_rows (grants_in s.owners.entries) c.args.t c.args.table in
+    waiters_same s.owners.entries c.release_rows.new.owners.entries (keep_waits s.owners.entries c.release_rows.new.owners.entries c.args.t after c.release_rows.ensures.changes c.release_rows.ensures.same) (s.conversions.items ++ s.requests.items) s.waiters
+
+pub serve_both-requires-clause-room : goal.serve_both-requires-clause-room
+serve_both-requires-clause-room c = omega (arith, c.args.self.now.room.woken_fit)
+
+pub invariant_of-self : goal.invariant_of-self
+invariant_of-self c =
+    let s = c.args.self.now in
+    let os1 = c.release_rows.new.owners.entries in
+    let os2 = c.serve_both.new.owners.entries in
+    let after = released_rows (grants_in s.owners.entries) c.args.t c.args.table in
+    let waits = keep_waits s.owners.entries os1 c.args.t after c.release_rows.ensures.changes c.release_rows.ensures.same in
+    let q = s.conversions.items ++ s.requests.items in
+    let w1 = waiters_same s.owners.entries os1 waits q s.waiters in
+    let f = c.serve_both.ensures.room in
+    record {
+      total = keep_total s.owners.entries os1 c.args.t after s.left c.release_rows.ensures.changes c.release_rows.ensures.room s.total ∙ sym c.serve_both.ensures.served.wakes.total;
+      room = record {
+        conversions_fit = omega (arith, s.room.conversions_fit, f.conversions_shorter, f.conversions_room);
+        requests_fit = omega (arith, s.room.requests_fit, f.requests_shorter, f.requests_room);
+        woken_fit = omega (arith, s.room.woken_fit, f.woken_sum, f.woken_room);
+      };
+      waiters = c.serve_both.ensures.served.waiters;
+      only = only_left os1 os2 s.conversions.items s.requests.items c.serve_both.new.conversions.items c.serve_both.new.requests.items s.woken.items c.serve_both.new.woken.items w1 (λ u. waits u ∙ s.only u) c.serve_both.ensures.served;
+      settled = settled_both os1 os2 s.conversions.items s.requests.items c.serve_both.new.conversions.items c.serve_both.new.requests.items s.woken.items c.serve_both.new.woken.items c.serve_both.ensures.served;
+      apart = apart_both os1 os2 s.conversions.items s.requests.items c.serve_both.new.conversions.items c.serve_both.new.requests.items s.woken.items c.serve_both.new.woken.items c.serve_both.ensures.served (apart_as os1 after c.release_rows.ensures.changes.grants_are (apart_released_rows (grants_in s.owners.entries) c.args.t c.args.table s.apart));
+    }
+
+pub returns-clause-ok : goal.returns-clause-ok
+returns-clause-ok c =
+    let s = c.args.self.now in
+    let os1 = c.release_rows.new.owners.entries in
+    let os2 = c.serve_both.new.owners.entries in
+    let after = released_rows (grants_in s.owners.entries) c.args.t c.args.table in
+    let path = grants_path os1 after c.release_rows.ensures.changes.grants_are in
+    let b = c.serve_both.ensures.served in
+    let q' = c.serve_both.new.conversions.items ++ c.serve_both.new.requests.items in
+    let v = keep_victims s.owners.entries os1 c.args.t after c.release_rows.ensures.changes c.release_rows.ensures.victim in
+    record {
+      given = b.woken;
+      noted = b.noted;
+      order = subst (λ (g : Grants). Serves g [] (s.conversions.items ++ s.requests.items) b.woken q') path b.order;
+      events = state_both os1 os2 (record (lock s) { grants = after }) c.serve_both.new.conversions.items c.serve_both.new.requests.items s.woken.items c.serve_both.new.woken.items (victim_in os2) path (λ u. ap (λ f. f u) v) b;
+    }
+
+pub returns-clause-room : goal.returns-clause-room
+returns-clause-room c =
+    let s = c.args.self.now in
+    let after = released_rows (grants_in s.owners.entries) c.args.t c.args.table in
+    λ u. c.serve_both.ensures.served.wakes.lefts u ∙ keep_lefts s.owners.entries c.release_rows.new.owners.entries c.args.t after c.release_rows.ensures.changes c.release_rows.ensures.room u
