@@ -5,4 +5,6 @@
 
 pub mod laws;
 pub mod symbol;
+#[cfg(test)]
+mod tests;
 pub mod word;
