@@ -4,6 +4,7 @@ pub mod Sound
 pub mod Viable
 pub mod Depths
 pub mod Plain
+pub mod Examples
 pub mod Walking
 pub mod Telling
 pub mod Exact
