@@ -1,0 +1,11 @@
+pub mod Classes
+pub mod Complete
+pub mod Sound
+pub mod Viable
+pub mod Depths
+pub mod Plain
+pub mod Examples
+pub mod Walking
+pub mod Telling
+pub mod Exact
+pub mod Verdict

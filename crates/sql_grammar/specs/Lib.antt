@@ -1,0 +1,9 @@
+pub mod Classes
+pub mod Syntax
+pub mod Machine
+pub mod Depth
+pub mod Rules
+pub mod Tokens
+pub mod Grammar
+pub mod Reading
+pub mod Verdict
