@@ -3,6 +3,8 @@
 //! What a real file holds between two calls is not promised: clauses on content hold where content is told.
 #![tactic(auto)]
 
+pub mod disk;
+
 ghost use Rattle.std.specs.Prelude.{◌≡◌, ◌≤◌, ℕ, List, length, IfOk};
 ghost use Rattle.device.specs.Counts.{HasCause};
 ghost use Rattle.device.specs.Streams.{SourceSeen, SinkSeen, HostSeen, Reads, Writes, unread};
