@@ -12,7 +12,7 @@ mod field;
 mod lists;
 pub mod record;
 pub mod size;
-mod sum;
+pub mod sum;
 #[cfg(test)]
 mod tests;
 mod texts;
