@@ -24,11 +24,14 @@ pub struct LogFile {
     pub(crate) window: Vec<u8>,
     pub(crate) at: Lsn,
     pub(crate) point: Lsn,
+    pub(crate) found: usize,
+    pub(crate) from: Lsn,
     ghost buffer_is: { length buffer.items ≡ 65536 },
     ghost used_is: { used + 44 ≤ 65536 },
     ghost room_is: { forced + used + 44 ≤ 16777216 },
     ghost segment_is: { (1 ≤ segment) × (segment ≤ 2 ^ 32 - 2) },
     ghost window_is: { length window.items ≡ 1048622 },
+    ghost found_is: { found ≤ 1048622 },
 }
 
 impl LogFile {
@@ -52,6 +55,8 @@ impl LogFile {
                 segment: 0,
                 offset: 0,
             },
+            found: 0,
+            from: Lsn { segment, offset: 0 },
         })
     }
 

@@ -9,3 +9,4 @@ mod change;
 mod control;
 pub mod file;
 pub mod force;
+pub mod read;
