@@ -1,2 +1,3 @@
 pub mod Counts
+pub mod Disk
 pub mod Streams

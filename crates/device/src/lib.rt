@@ -3,9 +3,13 @@
 //! What a real file holds between two calls is not promised: clauses on content hold where content is told.
 #![tactic(auto)]
 
+mod storage;
+
 ghost use Rattle.std.specs.Prelude.{◌≡◌, ◌≤◌, ℕ, List, length, IfOk};
 ghost use Rattle.device.specs.Counts.{HasCause};
 ghost use Rattle.device.specs.Streams.{SourceSeen, SinkSeen, HostSeen, Reads, Writes, unread};
+
+pub use storage::Disk;
 
 /// A call of the outside failed, and its object's count of faults rose.
 #[derive(Clone, Copy, Debug, PartialEq, Eq)]

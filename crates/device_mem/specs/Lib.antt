@@ -1,1 +1,5 @@
+pub mod CallLaws
+pub mod Calls
+pub mod Fuse
 pub mod Scripts
+pub mod Segments

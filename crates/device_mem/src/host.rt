@@ -4,6 +4,7 @@ ghost use Rattle.std.specs.Prelude.{◌≡◌, ◌==◌, ℕ, List, Some, IfOk, 
 ghost use Rattle.std.specs.Cmp.Lexicographic.{pointwise};
 ghost use Rattle.device_mem.specs.Scripts.{bytes_of};
 
+use crate::disk::MemDisk;
 use crate::failing::Failing;
 use crate::source::MemSource;
 use device::{Failed, Host};
@@ -17,14 +18,18 @@ pub struct Script {
     failing_reads: Vec<u64>,
 }
 
-/// No database: the disk in memory comes with the page store.
-#[derive(Debug, Drop)]
-pub struct NoDisk;
+/// A database that was put.
+#[derive(Drop)]
+struct Database {
+    name: Vec<u8>,
+    disk: MemDisk,
+}
 
-/// A host that gives the scripts that were put. Others it can't open.
-#[derive(Debug, Drop)]
+/// A host that gives the scripts that were put; others it can't open. It gives a disk that was put once, and a new one where there is none.
+#[derive(Drop)]
 pub struct MemHost {
     alloc: Global,
+    databases: Vec<Database>,
     scripts: Vec<Script>,
     faults: u64,
     failing: Failing,
@@ -35,18 +40,18 @@ impl Host for MemHost {
     ghost use Rattle.device.specs.Streams.{HostSeen};
     ghost use Rattle.device_mem.specs.Scripts.{bytes_of};
 
-    type Disk = NoDisk;
+    type Disk = MemDisk;
 
     type Script = MemSource;
 
     ghost seen = { λ h. record { scripts = bytes_of h.scripts.items; faults = h.faults } };
 
-    fn open(&mut self, _name: &str) -> Result<NoDisk, Failed> {
+    fn open(&mut self, name: &str) -> Result<MemDisk, Failed> {
         if self.failing.is_next() {
             self.faults = self.faults.saturating_add(1);
             return Err(Failed);
         }
-        Ok(NoDisk)
+        Ok(taken(self.alloc, &mut self.databases, name.as_bytes()))
     }
 
     fn script(&mut self, name: &str) -> Result<MemSource, Failed> {
@@ -72,6 +77,17 @@ fn is_same(a: &[u8], b: &[u8]) -> bool
     ensures { result ≡ pointwise (λ x y. x == y) a.now b.now }
 {
     a == b
+}
+
+/// The disk that was put last under this name, which is put no more, or a new one.
+fn taken(alloc: Global, databases: &mut Vec<Database>, name: &[u8]) -> MemDisk {
+    for i in 0..databases.len() {
+        if is_same(databases[i].name.as_slice(), name) {
+            let Database { name: _name, disk } = databases.remove(i);
+            return disk;
+        }
+    }
+    MemDisk::new(alloc)
 }
 
 /// A source of the script of this name, if it was put and there is memory for it.
@@ -103,6 +119,7 @@ impl MemHost {
     pub fn new(alloc: Global) -> MemHost {
         MemHost {
             alloc,
+            databases: Vec::new(alloc),
             scripts: Vec::new(alloc),
             faults: 0,
             failing: Failing::new(alloc),
@@ -117,6 +134,13 @@ impl MemHost {
             failing_reads: Vec::new(self.alloc),
         };
         self.scripts.insert(0, script)?;
+        Ok(())
+    }
+
+    /// Puts the disk of a name, in place of one that stood under it.
+    pub fn put_disk(&mut self, name: &str, disk: MemDisk) -> Result<(), AllocError> {
+        let name = Vec::from_slice(self.alloc, name.as_bytes())?;
+        self.databases.insert(0, Database { name, disk })?;
         Ok(())
     }
 

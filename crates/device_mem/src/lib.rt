@@ -3,7 +3,15 @@
 //! A call listed to fail does fail; so does one that finds no memory.
 #![tactic(auto)]
 
+pub mod call;
+mod calls;
+pub mod disk;
 pub mod failing;
+mod gauge;
 pub mod host;
+pub mod page_bytes;
+mod segments;
 pub mod sink;
 pub mod source;
+#[cfg(test)]
+mod tests;

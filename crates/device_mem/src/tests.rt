@@ -1,0 +1,49 @@
+//! A disk in memory: each call once, a listed call, and a fuse.
+
+use crate::disk::MemDisk;
+use device::Disk;
+
+const PAGE: [u8; 4096] = [7; 4096];
+
+#[test]
+fn pages_are_kept_until_they_are_dropped(rt: HostRuntime) {
+    let mut disk = MemDisk::new(rt.alloc());
+    let mut page = [0; 4096];
+    assert!(rt; disk.page_read(1, 0, &mut page) == Ok(false));
+    assert!(rt; disk.page_write(1, 0, &PAGE).is_ok());
+    assert!(rt; disk.page_sync().is_ok());
+    assert!(rt; disk.page_read(1, 0, &mut page) == Ok(true));
+    assert!(rt; page == PAGE);
+    assert!(rt; disk.container_drop(1).is_ok());
+    assert!(rt; disk.page_read(1, 0, &mut page) == Ok(false));
+    assert!(rt; disk.clock() == 3);
+}
+
+#[test]
+fn log_is_written_over_and_dropped(rt: HostRuntime) {
+    let mut disk = MemDisk::new(rt.alloc());
+    let mut bytes = [9; 4];
+    assert!(rt; disk.log_write(1, 1, &[5, 6]).is_ok());
+    assert!(rt; disk.log_write(1, 2, &[7]).is_ok());
+    assert!(rt; disk.log_sync().is_ok());
+    assert!(rt; disk.log_read(1, 0, &mut bytes) == Ok(3));
+    assert!(rt; bytes == [0, 5, 7, 9]);
+    assert!(rt; disk.log_read(1, 3, &mut bytes) == Ok(0));
+    assert!(rt; disk.log_drop(1).is_ok());
+    assert!(rt; disk.log_read(1, 0, &mut bytes) == Ok(0));
+    assert!(rt; disk.faults() == 0);
+}
+
+#[test]
+fn listed_calls_and_calls_behind_the_fuse_fail(rt: HostRuntime) {
+    let mut disk = MemDisk::new(rt.alloc());
+    assert!(rt; disk.fail_at(&[1]).is_ok());
+    assert!(rt; disk.page_sync().is_ok());
+    assert!(rt; disk.page_sync().is_err());
+    assert!(rt; disk.page_sync().is_ok());
+    disk.fuse(1);
+    assert!(rt; disk.log_sync().is_ok());
+    assert!(rt; disk.log_sync().is_err());
+    assert!(rt; disk.log_read(1, 0, &mut [0; 4]).is_err());
+    assert!(rt; disk.faults() == 3);
+}

@@ -1,0 +1,3 @@
+pub mod Control
+pub mod Reading
+pub mod Tail

@@ -1,0 +1,80 @@
+-- The current segment of a log: what is forced on the disk, and what is kept behind it.
+use Rattle.std.specs.Prelude.{◌≡◌, ◌≤◌, ◌<◌, ℕ, ◌+◌, ◌-◌, ◌^◌, List, ◌++◌, length, take}
+use Rattle.dby_types.specs.declared.number.Lsn.{Lsn}
+use Rattle.log_records.specs.Content.{LogRecord}
+use Rattle.log_records.specs.Content.LogBody.{next_segment}
+use Rattle.log_records.specs.Format.{size_of, stored_record}
+use Rattle.device.specs.Counts.{Rises}
+use Rattle.device.specs.Disk.{Segments, MayLog}
+use Rattle.log_file.specs.declared.file.LogFile.{LogFile}
+use Rattle.log_file.specs.declared.answer.LogAnswer.{LogAnswer}
+use Rattle.log_file.specs.declared.answer.LogAnswer.TheVariants.{Failed, Full}
+
+-- the bytes appended since the last force
+abbrev pub pending : LogFile → List ℕ
+pending l = take l.used l.buffer.items
+
+-- the place behind the last record
+abbrev pub end_of : LogFile → Lsn
+end_of l = record { segment = l.segment; offset = l.forced + l.used }
+
+-- the disk has the forced bytes
+abbrev pub IsOn : LogFile → Segments → Type 0
+IsOn l log = l.forced ≤ length (log l.segment)
+
+-- the bytes of the current segment, forced or not
+abbrev pub tail : LogFile → Segments → List ℕ
+tail l log = take l.forced (log l.segment) ++ pending l
+
+-- the current segment has these bytes more at its end, and no other segment changed
+pub record Grows (old new : LogFile) (before after : Segments) (bytes : List ℕ) : Type 0 where
+  pub segment_is : new.segment ≡ old.segment
+  pub tail_is : tail new after ≡ tail old before ++ bytes
+  pub others : (s : ℕ) → (s ≡ old.segment → ⊥) → after s ≡ before s
+  pub is_on : IsOn new after
+
+-- the record that names the segment that follows
+abbrev pub next_of : ℕ → LogRecord
+next_of segment = record { txn = 0; back = record { segment = 0; offset = 0 }; body = next_segment segment }
+
+-- the segment ends with the record that names the next one, and no other segment changed
+pub record Left (old : LogFile) (before after : Segments) : Type 0 where
+  pub bytes : take (old.forced + old.used + 44) (after old.segment) ≡ tail old before ++ stored_record (end_of old) (next_of (old.segment + 1))
+  pub others : (s : ℕ) → (s ≡ old.segment → ⊥) → after s ≡ before s
+
+-- the next segment is begun: the log goes on in it, and nothing of it is forced
+pub record IsNext (old new : LogFile) : Type 0 where
+  pub segment_is : new.segment ≡ old.segment + 1
+  pub forced_is : new.forced ≡ 0
+  pub point_is : new.point ≡ old.point
+
+-- the place where the next segment begins
+abbrev pub next_place : LogFile → Lsn
+next_place l = record { segment = l.segment + 1; offset = 0 }
+
+-- the segment was left, and this record is the first one of the next
+pub record Moves (old new : LogFile) (before after : Segments) (r : LogRecord) : Type 0 where
+  pub left : Left old before after
+  pub next : IsNext old new
+  pub pending_is : pending new ≡ stored_record (next_place old) r
+
+-- a record has room in the current segment, with the record that names the next one behind it
+abbrev pub FitsSegment : LogFile → LogRecord → Type 0
+FitsSegment l r = l.forced + l.used + size_of r + 44 ≤ 16777216
+
+-- an append fails only where the disk's count rose; it is full exactly where a new segment is needed and has no number
+abbrev pub HasAnswer : LogFile → LogRecord → ℕ → ℕ → LogAnswer → Type 0
+HasAnswer l r before now Failed = Rises before now × ((FitsSegment l r → ⊥) → l.segment + 1 < 2 ^ 32 - 1)
+HasAnswer l r before now (Full segment) = (segment ≡ 2 ^ 32 - 1) × (l.segment + 1 ≡ segment) × (FitsSegment l r → ⊥)
+
+-- a log that answers a failure is as it was, but for the place that is read next
+pub record Same (old new : LogFile) : Type 0 where
+  pub segment_is : new.segment ≡ old.segment
+  pub forced_is : new.forced ≡ old.forced
+  pub used_is : new.used ≡ old.used
+  pub pending_is : pending new ≡ pending old
+  pub point_is : new.point ≡ old.point
+
+-- a crash leaves every other segment as before, and of this one every byte that was forced
+abbrev pub KeepsForced : LogFile → MayLog → MayLog → Type 0
+KeepsForced l old new = (s : ℕ) (b : List ℕ) → new s b → (d : List ℕ) × (old s d × ((s ≡ l.segment → ⊥) → b ≡ d) × (s ≡ l.segment → l.forced ≤ length d → take l.forced b ≡ take l.forced d))

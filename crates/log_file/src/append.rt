@@ -1,0 +1,97 @@
+//! Records put at the log's end.
+
+ghost use Rattle.std.specs.Prelude.{◌≡◌, ◌≤◌, ◌<◌, ◌+◌, ◌++◌, ◌↔◌, [], IsTrue, OnOk, OnErr, IfOk, IfErr, take, length};
+ghost use Rattle.device.specs.Counts.{HasCause, Rises};
+ghost use Rattle.log_records.specs.Format.{size_of, stored_record};
+ghost use Rattle.log_records.specs.Rules.{IsLegal};
+ghost use Rattle.log_records.specs.View.{record_of};
+ghost use Rattle.log_file.specs.Tail.{Grows, IsOn, Same, end_of, pending};
+
+use crate::file::{BUFFER, LogFile, SEGMENT};
+use dby_types::number::Lsn;
+use device::{Disk, Failed};
+use log_records::encode::encode;
+use log_records::record::Record;
+
+/// The bytes of a record that names the next segment.
+pub const NEXT: usize = 44;
+
+/// Writes a record behind the bytes in front.
+pub fn encode_behind(into: &mut [u8], used: usize, r: &Record<'_>, at: Lsn)
+    requires legal { IsLegal at (record_of r.now) }
+    requires short { size_of (record_of r.now) ≤ 20000 }
+    requires room { used + size_of (record_of r.now) ≤ length into.old }
+    ensures behind { take (used + size_of (record_of r.now)) into.new ≡ take used into.old ++ stored_record at (record_of r.now) }
+    ensures before { take used into.new ≡ take used into.old }
+{
+    encode(r, at, &mut into[used..]);
+}
+
+impl LogFile {
+    /// Whether a record of this size needs a new segment: behind it there has to be room for the record that names the next one.
+    pub(crate) fn needs_segment(&self, size: usize) -> bool
+        requires { size ≤ 20000 }
+        ensures { IsTrue result ↔ (16777216 < self.now.forced + self.now.used + size + 44) }
+    {
+        self.forced + self.used + size + NEXT > SEGMENT
+    }
+
+    /// Whether a record of this size finds no room beside those that wait for a force.
+    pub(crate) fn needs_force(&self, size: usize) -> bool
+        requires { size ≤ 20000 }
+        ensures { IsTrue result ↔ (65536 < self.now.used + size + 44) }
+    {
+        self.used + size + NEXT > BUFFER
+    }
+
+    /// Puts a record behind the others.
+    pub(crate) fn put(&mut self, r: &Record<'_>, size: usize) -> Lsn
+        requires legal { IsLegal (end_of self.old) (record_of r.now) }
+        requires size_is { (size ≡ size_of (record_of r.now)) × (size ≤ 20000) }
+        requires room { (self.old.used + size + 44 ≤ 65536) × (self.old.forced + self.old.used + size + 44 ≤ 16777216) }
+        ensures place { result ≡ end_of self.old }
+        ensures pending { pending self.new ≡ pending self.old ++ stored_record (end_of self.old) (record_of r.now) }
+        ensures used { self.new.used ≡ self.old.used + size }
+        ensures same { (self.new.segment ≡ self.old.segment) × (self.new.forced ≡ self.old.forced) × (self.new.point ≡ self.old.point) × (self.new.at ≡ self.old.at) }
+    {
+        let at = self.end();
+        encode_behind(self.buffer.as_mut_slice(), self.used, r, at);
+        self.used += size;
+        at
+    }
+
+    /// Makes room for a record of this size in the current segment, by a force where there is none beside the records that wait for it.
+    pub(crate) fn make_room<D: Disk>(&mut self, disk: &mut D, size: usize) -> Result<(), Failed>
+        requires { (size ≤ 20000) × (self.old.forced + self.old.used + size + 44 ≤ 16777216) }
+        ensures grows { D.tells → IsOn self.old (D.log disk.old) → OnOk result (Grows self.old self.new (D.log disk.old) (D.log disk.new) []) }
+        ensures room { OnOk result ((self.new.used + size + 44 ≤ 65536) × (end_of self.new ≡ end_of self.old)) }
+        ensures same { OnErr result (Same self.old self.new) }
+        ensures cause { HasCause (D.fault_count disk.old) (D.fault_count disk.new) result }
+    {
+        if self.needs_force(size) {
+            return self.force(disk);
+        }
+        Ok(())
+    }
+
+    /// Appends a record to the current segment.
+    pub(crate) fn append_here<D: Disk>(
+        &mut self,
+        disk: &mut D,
+        r: &Record<'_>,
+        size: usize,
+    ) -> Result<Lsn, Failed>
+        requires legal { IsLegal (end_of self.old) (record_of r.now) }
+        requires size_is { (size ≡ size_of (record_of r.now)) × (size ≤ 20000) }
+        requires room { self.old.forced + self.old.used + size + 44 ≤ 16777216 }
+        ensures place { IfOk result (λ at. at ≡ end_of self.old) }
+        ensures grows { D.tells → IsOn self.old (D.log disk.old) → OnOk result (Grows self.old self.new (D.log disk.old) (D.log disk.new) (stored_record (end_of self.old) (record_of r.now))) }
+        ensures same { OnErr result (Same self.old self.new) }
+        ensures cause { HasCause (D.fault_count disk.old) (D.fault_count disk.new) result }
+    {
+        match self.make_room(disk, size) {
+            Ok(()) => Ok(self.put(r, size)),
+            Err(_) => Err(Failed),
+        }
+    }
+}

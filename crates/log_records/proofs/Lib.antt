@@ -1,0 +1,6 @@
+pub mod FieldLemmas
+pub mod ChangeLemmas
+pub mod ByteLemmas
+pub mod BodyLemmas
+pub mod WholeLemmas
+pub mod EncodeLemmas
