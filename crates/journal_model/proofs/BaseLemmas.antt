@@ -26,7 +26,6 @@ at_each P f t x here others u = elim (cases_eq u t) [
   | inr ne ↦ subst P (sym (at_other f t x u ne)) (others u ne)
 ]
 
-
 pub replay_push : (w : World) (es : List Entry) (e : Entry) → replay w (es ++ e ∷ []) ≡ apply (replay w es) e
 replay_push w [] e = refl
 replay_push w (x ∷ es) e = replay_push (apply w x) es e
