@@ -4,3 +4,4 @@ pub mod HeapLemmas
 pub mod SlotLemmas
 pub mod ListLemmas
 pub mod StoreLemmas
+pub mod AloneLemmas

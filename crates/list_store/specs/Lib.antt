@@ -4,3 +4,4 @@ pub mod Begun
 pub mod Lists
 pub mod Places
 pub mod Told
+pub mod Alone

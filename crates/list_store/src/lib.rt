@@ -9,3 +9,5 @@ pub mod holders;
 pub mod lists;
 pub mod places;
 pub mod store;
+#[cfg(test)]
+mod tests;
