@@ -4,7 +4,7 @@ use Rattle.std.specs.Ordering.{nat_cmp, ordering_then, ordering_reverse, MatchOr
 use Rattle.std.specs.declared.cmp.Ordering.TheVariants.{Less, Equal, Greater}
 use Rattle.std.specs.Cmp.{nat_cmp_is}
 use Rattle.std.proofs.lemmas.Cmp.{nat_cmp_total, ranked, by_ranked, tied_itself}
-use Rattle.std.proofs.str.Laws.{Shape, of1, of2, of3, of4, shape}
+use Rattle.std.proofs.str.Laws.{Follows, Shape, of1, of2, of3, of4, shape}
 use Rattle.std.specs.Char.{len_utf8}
 use Rattle.std.proofs.lemmas.Str.{length-encode}
 use Rattle.std.proofs.lemmas.Bool.Decides.{nat_tests}
@@ -21,19 +21,19 @@ alike : (x y : ℕ) (xs ys : List ℕ) → x ≡ y → text_cmp (x ∷ xs) (y �
 alike x y xs ys e = ap (λ n. ordering_then (nat_cmp n y) (text_cmp xs ys)) e ∙ ap (λ o. ordering_then o (text_cmp xs ys)) (tied_itself nat_cmp_total y)
 
 -- bytes below 192 after the first are the digits of a number to the base 64, and the greater number stands later
-lower-two : (a b c d : ℕ) (xs ys : List ℕ) → (128 ≤ b) × (b < 192) → (128 ≤ d) × (d < 192) → a * 64 + b < c * 64 + d → text_cmp (a ∷ b ∷ xs) (c ∷ d ∷ ys) ≡ Less
+lower-two : (a b c d : ℕ) (xs ys : List ℕ) → Follows b → Follows d → a * 64 + b < c * 64 + d → text_cmp (a ∷ b ∷ xs) (c ∷ d ∷ ys) ≡ Less
 lower-two a b c d xs ys p q h = by_ranked (a < c) (a ≡ c) (c < a) (nat_cmp a c) (ranked a c (nat_cmp a c) refl)
     (λ _ k. lower a c (b ∷ xs) (d ∷ ys) k)
     (λ _ k. alike a c (b ∷ xs) (d ∷ ys) k ∙ lower b d xs ys (omega (arith, k, h)))
     (λ _ k. absurd (omega (arith, k, h, p.0, p.1, q.0, q.1)))
 
-lower-three : (a b u c d v : ℕ) (xs ys : List ℕ) → (128 ≤ b) × (b < 192) → (128 ≤ u) × (u < 192) → (128 ≤ d) × (d < 192) → (128 ≤ v) × (v < 192) → a * 4096 + b * 64 + u < c * 4096 + d * 64 + v → text_cmp (a ∷ b ∷ u ∷ xs) (c ∷ d ∷ v ∷ ys) ≡ Less
+lower-three : (a b u c d v : ℕ) (xs ys : List ℕ) → Follows b → Follows u → Follows d → Follows v → a * 4096 + b * 64 + u < c * 4096 + d * 64 + v → text_cmp (a ∷ b ∷ u ∷ xs) (c ∷ d ∷ v ∷ ys) ≡ Less
 lower-three a b u c d v xs ys p p' q q' h = by_ranked (a < c) (a ≡ c) (c < a) (nat_cmp a c) (ranked a c (nat_cmp a c) refl)
     (λ _ k. lower a c (b ∷ u ∷ xs) (d ∷ v ∷ ys) k)
     (λ _ k. alike a c (b ∷ u ∷ xs) (d ∷ v ∷ ys) k ∙ lower-two b u d v xs ys p' q' (omega (arith, k, h)))
     (λ _ k. absurd (omega (arith, k, h, p.0, p.1, q.0, q.1, p'.0, p'.1, q'.0, q'.1)))
 
-lower-four : (a b u m c d v n : ℕ) (xs ys : List ℕ) → (128 ≤ b) × (b < 192) → (128 ≤ u) × (u < 192) → (128 ≤ m) × (m < 192) → (128 ≤ d) × (d < 192) → (128 ≤ v) × (v < 192) → (128 ≤ n) × (n < 192) → a * 262144 + b * 4096 + u * 64 + m < c * 262144 + d * 4096 + v * 64 + n → text_cmp (a ∷ b ∷ u ∷ m ∷ xs) (c ∷ d ∷ v ∷ n ∷ ys) ≡ Less
+lower-four : (a b u m c d v n : ℕ) (xs ys : List ℕ) → Follows b → Follows u → Follows m → Follows d → Follows v → Follows n → a * 262144 + b * 4096 + u * 64 + m < c * 262144 + d * 4096 + v * 64 + n → text_cmp (a ∷ b ∷ u ∷ m ∷ xs) (c ∷ d ∷ v ∷ n ∷ ys) ≡ Less
 lower-four a b u m c d v n xs ys p p' p'' q q' q'' h = by_ranked (a < c) (a ≡ c) (c < a) (nat_cmp a c) (ranked a c (nat_cmp a c) refl)
     (λ _ k. lower a c (b ∷ u ∷ m ∷ xs) (d ∷ v ∷ n ∷ ys) k)
     (λ _ k. alike a c (b ∷ u ∷ m ∷ xs) (d ∷ v ∷ n ∷ ys) k ∙ lower-three b u m d v n xs ys p' p'' q' q'' (omega (arith, k, h)))
