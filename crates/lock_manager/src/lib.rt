@@ -2,6 +2,7 @@
 #![tactic(auto)]
 
 pub mod blocking;
+pub mod holders;
 pub mod holdings;
 pub mod names;
 pub mod owner;
