@@ -10,4 +10,6 @@ pub mod owners;
 pub mod queue;
 pub mod table;
 pub mod tallies;
+#[cfg(test)]
+mod tests;
 pub mod tried;
