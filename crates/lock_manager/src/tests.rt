@@ -215,3 +215,28 @@ fn queue(rt: HostRuntime) -> Result<(), AllocError> {
     assert_eq!(rt; [l.granted(TWO), l.granted(THREE)], [true, false]);
     Ok(())
 }
+
+/// Notes a transaction as a victim, if it waits. Says whether it is one.
+fn chooses(l: &mut LockTable, t: TxnNo) -> bool {
+    if l.granted(t) {
+        return false;
+    }
+    l.choose(t);
+    l.is_victim(t)
+}
+
+/// Who waits can be chosen, and is no victim any more once all is given back.
+#[test]
+fn victim(rt: HostRuntime) -> Result<(), AllocError> {
+    let mut l = table(rt.alloc())?;
+    let steps = [
+        (ONE, ROW_1, Mode::X2, Tried::Granted),
+        (TWO, ROW_1, Mode::S2, Tried::Conflict(ONE)),
+    ];
+    assert_eq!(rt; first_wrong(&mut l, &steps), None);
+    assert_eq!(rt; [chooses(&mut l, ONE), chooses(&mut l, TWO)], [false, true]);
+    l.release_all(TWO);
+    assert!(rt; !l.is_victim(TWO));
+    l.laws();
+    Ok(())
+}
