@@ -6,3 +6,5 @@
 pub mod choice;
 pub mod search;
 pub mod seen;
+#[cfg(test)]
+mod tests;

@@ -9,3 +9,4 @@ pub mod TalliesLemmas
 pub mod NumberLemmas
 pub mod BlockingLemmas
 pub mod EscalateLemmas
+pub mod HoldersLemmas

@@ -6,4 +6,5 @@ pub mod OwnerSteps
 pub mod Serve
 pub mod Blocking
 pub mod Table
+pub mod Holders
 pub mod Room

@@ -2,6 +2,7 @@
 #![tactic(auto)]
 
 pub mod blocking;
+pub mod holders;
 pub mod holdings;
 pub mod names;
 pub mod owner;
@@ -9,4 +10,6 @@ pub mod owners;
 pub mod queue;
 pub mod table;
 pub mod tallies;
+#[cfg(test)]
+mod tests;
 pub mod tried;

@@ -1,6 +1,6 @@
 //! The lock table: who has which locks, and who waits.
 
-ghost use Rattle.std.specs.Prelude.{◌≡◌, ◌⊎◌, ◌≤◌, ◌<◌, ◌+◌, ◌-◌, ◌&&◌, ◌||◌, ℕ, true, false, not, [], ◌∷◌, ◌++◌, Some, None, IsSome, OnOk, OnErr, if◌then◌else◌, MatchOption, IsTrue, ◌↔◌, is_ok, length};
+ghost use Rattle.std.specs.Prelude.{◌≡◌, ◌⊎◌, ◌≤◌, ◌<◌, ◌+◌, ◌-◌, ◌&&◌, ◌||◌, ℕ, true, false, not, [], ◌∷◌, ◌++◌, Some, None, IsSome, OnOk, OnErr, IfOk, if◌then◌else◌, MatchOption, IsTrue, ◌↔◌, is_ok, length};
 ghost use Rattle.dby_types.specs.declared.number.TxnNo.{TxnNo};
 ghost use Rattle.lock_modes.specs.Names.{same_txn, is_row_name};
 ghost use Rattle.lock_modes.specs.Lock.{no_locks, apply, request, has_grant, queue};
@@ -13,6 +13,7 @@ ghost use Rattle.lock_manager.specs.Owners.{left_sum, waits_in, grants_in};
 ghost use Rattle.lock_manager.specs.Serve.{Waiters, is_among};
 
 use crate::blocking::{least_blocker, request_of};
+use crate::holders::{self, Holders};
 use crate::owners::{self, Owners};
 use crate::queue::{drop_requests, in_way, is_contested, make_room, serve_both, waits};
 use crate::tried::Tried;
@@ -45,6 +46,7 @@ pub struct LockTable {
 impl LockTable {
     ghost use Rattle.lock_modes.specs.declared.name.LockName.TheVariants.{Table};
     ghost use Rattle.lock_manager.specs.Blocking.{IsBlocker, IsUnblocked};
+    ghost use Rattle.lock_manager.specs.Holders.{IsHolders};
     ghost use Rattle.lock_manager.specs.Table.{lock, spare_of, woken_of, IsCause, IsHindrance, IsSpent, IsUncontested, Gives, WritesIn, HoldsGap, GivesRows, Escalates};
 
     /// A table without locks.
@@ -110,6 +112,13 @@ impl LockTable {
         ensures exact { IsNumber (λ n. has_grant (lock self.now).grants t n) result }
     {
         owners::count(&self.owners, t)
+    }
+
+    /// Every transaction with each mode that it has on a name, each pair once; or want of memory.
+    pub fn holders(&self, name: LockName) -> Result<Holders, AllocError>
+        ensures ok { IfOk result (λ hs. IsHolders (lock self.now).grants name hs) }
+    {
+        holders::holders(&self.owners, self.alloc, name)
     }
 
     /// On how many rows and places before a first entry of a table a transaction has a grant.

@@ -10,3 +10,5 @@ pub mod laws;
 pub mod mode;
 pub mod modes;
 pub mod name;
+#[cfg(test)]
+mod tests;

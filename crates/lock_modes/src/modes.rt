@@ -22,7 +22,7 @@ pub struct Modes {
 }
 
 /// Each mode once, rows before tables.
-const ALL: [Mode; 11] = [
+pub const ALL: [Mode; 11] = [
     Mode::S2,
     Mode::S3,
     Mode::U2,
