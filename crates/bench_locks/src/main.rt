@@ -1,0 +1,40 @@
+//! Locks taken and given back again and again, for a clock outside.
+//!
+//! A line of standard input names a work, how often it is done and how many names another transaction holds meanwhile, as in
+//! `rows 1000 0`; its answer is a number that stands on all that was done.
+#![tactic(auto)]
+
+mod work;
+
+use std::alloc::{AllocError, Global};
+use std::io;
+
+fn main(rt: HostRuntime) -> io::Result<()> {
+    for line in rt.lines(rt.alloc()) {
+        let answer = answer(rt.alloc(), line?.as_str())?;
+        println!(rt; "{answer}")?;
+    }
+    Ok(())
+}
+
+/// The answer to a line; 0 where it names no work.
+fn answer(alloc: Global, line: &str) -> Result<u64, AllocError> {
+    let Some((work, numbers)) = line.split_once(' ') else {
+        return Ok(0);
+    };
+    let Some((often, held)) = numbers.split_once(' ') else {
+        return Ok(0);
+    };
+    let (Ok(times), Ok(others)) = (often.trim().parse::<u32>(), held.trim().parse::<u32>()) else {
+        return Ok(0);
+    };
+    let mut l = work::beside(alloc, others)?;
+    match work {
+        "rows" => work::rows(&mut l, times),
+        "rows_all" => work::rows_all(&mut l, times),
+        "shared" => work::shared(&mut l, times),
+        "chain" => work::chain(&mut l, times),
+        "ring" => work::ring(&mut l, times),
+        _ => Ok(0),
+    }
+}
