@@ -1,0 +1,4 @@
+pub mod Orders
+pub mod World
+pub mod Legal
+pub mod Places
