@@ -1,21 +1,26 @@
 -- What a statement means depends on the catalog and on its own table alone; and rows go on fitting their columns.
-use Rattle.std.proofs.Common.{◌≡◌, ℕ, List, [], ◌∷◌, true, false, refl, sym, ◌∙◌, ap, inl, inr, Option, Some, None}
+use Rattle.std.proofs.Common.{◌≡◌, ℕ, List, [], ◌∷◌, true, false, refl, sym, ◌∙◌, ap, inl, inr, Option, Some, None, Bool}
 use Rattle.std.proofs.lemmas.Bool.{cases_Bool, or_parts}
 use Rattle.dby_types.specs.declared.answer.Component.{Component}
 use Rattle.dby_types.specs.declared.definition.TableDef.{TableDef}
 use Rattle.dby_types.specs.declared.number.RowId.{RowId}
+use Rattle.dby_types.specs.declared.state.SqlState.{SqlState}
+use Rattle.dby_types.specs.declared.state.SqlState.TheVariants as state
 use Rattle.dby_types.specs.declared.value.Value.{Value}
+use Rattle.journal_model.specs.declared.journal.Refusal.{Refusal}
+use Rattle.journal_model.specs.declared.journal.Refusal.TheVariants.{Sql, Memory}
 use Rattle.sql_forms.specs.declared.form.Form.TheVariants.{CreateTable, Insert, Select}
 use Rattle.table_model.specs.Tables.{Tables, Made, laid_over}
 use Rattle.table_model.proofs.TablesLemmas.{each_map}
 use Rattle.journal_model.specs.Catalog.{Defines}
+use Rattle.journal_model.specs.Meaning.{is_long}
 use Rattle.journal_model.specs.Levels.{ReadsCommitted, Stood, Moved, meets, rows_at}
 use Rattle.journal_model.specs.Legal.{CommitsFit}
 use Rattle.session_model.specs.declared.order.Order.{Order}
 use Rattle.session_model.specs.declared.order.Order.TheVariants.{Command as bids, Form as runs}
-use Rattle.session_model.specs.Orders.{PassesOrder, Passes, order_of}
+use Rattle.session_model.specs.Orders.{PassesOrder, Passes, RefusedOrder, RefusedIf, order_of}
 use Rattle.session_model.specs.World.{Told, said, denied}
-use Rattle.session_model.specs.Legal.{NullInOrder, IsMeant}
+use Rattle.session_model.specs.Legal.{NullInOrder, IsMeant, HasEvidence}
 use Rattle.session_model.specs.Places.{is_catalog, touches, Fitting}
 use Rattle.session_model.proofs.PlaceLemmas.{touched, untouched}
 
@@ -65,6 +70,70 @@ null_same (Some (runs (Insert name tuples))) f g e h = (
   },
   h.1,
 )
+
+-- THE SINGLE REFUSAL of a text, and the evidence of one
+refused_form : (order : Order) (f g : Tables) → SameCatalog f g → (why : SqlState) → RefusedOrder (Some order) f why → RefusedOrder (Some order) g why
+refused_form (bids c) f g e why h = h
+refused_form (runs (CreateTable name columns)) f g e why h = (
+  h.0,
+  elim h.1 [
+    | inl t ↦ inl (record { def = t.def; defined = defines_same f g e t.def t.defined; named = t.named })
+    | inr more ↦ inr more
+  ],
+)
+refused_form (runs (Insert name tuples)) f g e why h = elim h [
+  | inl none ↦ inl (none.0, λ d defines. none.1 d (defines_same g f (other_way f g e) d defines))
+  | inr bad ↦ inr (
+    bad.0,
+    record {
+      target = record { def = bad.1.target.def; defined = defines_same f g e bad.1.target.def bad.1.target.defined; named = bad.1.target.named };
+      misfit = bad.1.misfit;
+    },
+  )
+]
+refused_form (runs (Select name)) f g e why h = (h.0, λ d defines. h.1 d (defines_same g f (other_way f g e) d defines))
+
+refused_same : (long : Bool) (order : Option Order) (f g : Tables) → SameCatalog f g → (why : SqlState) → RefusedIf long order f why → RefusedIf long order g why
+refused_same true order f g e why h = h
+refused_same false None f g e why h = h
+refused_same false (Some order) f g e why h = refused_form order f g e why h
+
+pub evidence_same : (text : List ℕ) (f g : Tables) → SameCatalog f g → (why : Refusal) → HasEvidence text f why → HasEvidence text g why
+evidence_same text f g e Memory h = tt
+evidence_same text f g e (Sql state.NullNotAllowed rows) h = (h.0, passes_same text f g e h.1, null_same (order_of text) f g e h.2)
+evidence_same text f g e (Sql state.PagesSpent rows) h = h
+evidence_same text f g e (Sql state.LogSpent rows) h = h
+evidence_same text f g e (Sql state.Deadlock rows) h = (h.0, refused_same (is_long text) (order_of text) f g e state.Deadlock h.1)
+evidence_same text f g e (Sql state.DuplicateKey rows) h = (h.0, refused_same (is_long text) (order_of text) f g e state.DuplicateKey h.1)
+evidence_same text f g e (Sql state.TextTooLong rows) h = (h.0, refused_same (is_long text) (order_of text) f g e state.TextTooLong h.1)
+evidence_same text f g e (Sql state.OutOfRange rows) h = (h.0, refused_same (is_long text) (order_of text) f g e state.OutOfRange h.1)
+evidence_same text f g e (Sql state.DivisionByZero rows) h = (h.0, refused_same (is_long text) (order_of text) f g e state.DivisionByZero h.1)
+evidence_same text f g e (Sql (state.Syntax at) rows) h = (h.0, refused_same (is_long text) (order_of text) f g e (state.Syntax at) h.1)
+evidence_same text f g e (Sql state.NoTable rows) h = (h.0, refused_same (is_long text) (order_of text) f g e state.NoTable h.1)
+evidence_same text f g e (Sql state.NoColumn rows) h = (h.0, refused_same (is_long text) (order_of text) f g e state.NoColumn h.1)
+evidence_same text f g e (Sql state.AmbiguousColumn rows) h = (h.0, refused_same (is_long text) (order_of text) f g e state.AmbiguousColumn h.1)
+evidence_same text f g e (Sql state.NotInTarget rows) h = (h.0, refused_same (is_long text) (order_of text) f g e state.NotInTarget h.1)
+evidence_same text f g e (Sql state.ValueCount rows) h = (h.0, refused_same (is_long text) (order_of text) f g e state.ValueCount h.1)
+evidence_same text f g e (Sql state.NotComparable rows) h = (h.0, refused_same (is_long text) (order_of text) f g e state.NotComparable h.1)
+evidence_same text f g e (Sql state.NotStorable rows) h = (h.0, refused_same (is_long text) (order_of text) f g e state.NotStorable h.1)
+evidence_same text f g e (Sql state.NameExists rows) h = (h.0, refused_same (is_long text) (order_of text) f g e state.NameExists h.1)
+evidence_same text f g e (Sql state.NothingToDrop rows) h = (h.0, refused_same (is_long text) (order_of text) f g e state.NothingToDrop h.1)
+evidence_same text f g e (Sql state.NoParent rows) h = (h.0, refused_same (is_long text) (order_of text) f g e state.NoParent h.1)
+evidence_same text f g e (Sql state.CheckFails rows) h = (h.0, refused_same (is_long text) (order_of text) f g e state.CheckFails h.1)
+evidence_same text f g e (Sql state.TooLarge rows) h = (h.0, refused_same (is_long text) (order_of text) f g e state.TooLarge h.1)
+evidence_same text f g e (Sql state.StatementTooLong rows) h = (h.0, refused_same (is_long text) (order_of text) f g e state.StatementTooLong h.1)
+evidence_same text f g e (Sql state.NameTwice rows) h = (h.0, refused_same (is_long text) (order_of text) f g e state.NameTwice h.1)
+evidence_same text f g e (Sql state.Grouping rows) h = (h.0, refused_same (is_long text) (order_of text) f g e state.Grouping h.1)
+evidence_same text f g e (Sql state.WrongOperand rows) h = (h.0, refused_same (is_long text) (order_of text) f g e state.WrongOperand h.1)
+evidence_same text f g e (Sql state.SecondPrimaryKey rows) h = (h.0, refused_same (is_long text) (order_of text) f g e state.SecondPrimaryKey h.1)
+evidence_same text f g e (Sql state.CursorState rows) h = (h.0, refused_same (is_long text) (order_of text) f g e state.CursorState h.1)
+evidence_same text f g e (Sql state.CursorQuery rows) h = (h.0, refused_same (is_long text) (order_of text) f g e state.CursorQuery h.1)
+evidence_same text f g e (Sql state.CursorsSpent rows) h = (h.0, refused_same (is_long text) (order_of text) f g e state.CursorsSpent h.1)
+evidence_same text f g e (Sql state.CursorOpen rows) h = (h.0, refused_same (is_long text) (order_of text) f g e state.CursorOpen h.1)
+evidence_same text f g e (Sql state.NoParentKey rows) h = (h.0, refused_same (is_long text) (order_of text) f g e state.NoParentKey h.1)
+evidence_same text f g e (Sql state.IsParent rows) h = (h.0, refused_same (is_long text) (order_of text) f g e state.IsParent h.1)
+evidence_same text f g e (Sql state.CheckTooLong rows) h = (h.0, refused_same (is_long text) (order_of text) f g e state.CheckTooLong h.1)
+evidence_same text f g e (Sql state.NotBuilt rows) h = (h.0, refused_same (is_long text) (order_of text) f g e state.NotBuilt h.1)
 
 -- a joined list of one table's rows over one view
 stood_same : (n : ℕ) (f g : Tables) → ((rid : RowId) → f n rid ≡ g n rid) → (tuple : List Component) → Stood (λ m. f) 0 0 (n ∷ []) tuple → Stood (λ m. g) 0 0 (n ∷ []) tuple
