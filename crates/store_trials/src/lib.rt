@@ -3,5 +3,6 @@
 //! The store tells no crashes, also where the one below it does.
 #![tactic(auto)]
 
+pub mod claims;
 pub mod marks;
 pub mod onward;
