@@ -32,6 +32,7 @@ impl<S: RowStore> OnwardStore<S> {
 }
 
 impl<S: RowStore> RowStore for OnwardStore<S> {
+    ghost use Rattle.std.specs.Prelude.{◌+◌};
     ghost use Rattle.store_trials.specs.Sent.{seen_over};
 
     ghost view = { λ s. seen_over (S.view s.store) s.sent };
@@ -52,8 +53,14 @@ impl<S: RowStore> RowStore for OnwardStore<S> {
 
     ghost keeps_rules = { λ tables. Unit {0} };
 
+    ghost most_pages = { S.most_pages + 1 };
+
     fn law(&self) {
         self.store.law();
+    }
+
+    fn bound(&self) {
+        self.store.bound();
     }
 
     fn actors(&self) -> u32 {
