@@ -1,4 +1,4 @@
-//! What tries the contract of a store: a store over any other that sends actors onward.
+//! What tries the contract from both sides: a store over any other that sends actors onward, and callers of any store.
 //!
 //! The store tells no crashes, also where the one below it does.
 #![tactic(auto)]
@@ -6,3 +6,6 @@
 pub mod claims;
 pub mod marks;
 pub mod onward;
+pub mod sole;
+#[cfg(test)]
+mod tests;
