@@ -1,9 +1,9 @@
 //! A caller that writes over no row that another open transaction has changed.
 
-ghost use Rattle.std.specs.Prelude.{◌≡◌, IfOk, OnErr};
+ghost use Rattle.std.specs.Prelude.{◌≡◌, IfOk, IfErr, OnErr};
 ghost use Rattle.store_api.specs.Effects.{IsOpen, FitsTable};
 ghost use Rattle.store_api.specs.View.{MayHold};
-ghost use Rattle.store_trials.specs.Claims.{is_of as is_of_row, is_claimed as is_claimed_in, AreListed, Ends};
+ghost use Rattle.store_trials.specs.Claims.{is_of as is_of_row, is_claimed as is_claimed_in, AreListed, Refuses, Ends};
 
 use dby_types::number::{RowId, TxnNo};
 use dby_types::value::Row;
@@ -63,6 +63,7 @@ pub fn write_over<S: RowStore>(
     requires claims { AreListed (S.view store.old) t.0 claims.now }
     ensures ok { IfOk result (Ends t.0 at.table at.rid row.now claims.now (S.view store.old).content (S.view store.new).content) }
     ensures err { OnErr result ((S.view store.new).content ≡ (S.view store.old).content) }
+    ensures cause { IfErr result (Refuses (S.view store.old) (S.view store.new)) }
 {
     if is_claimed(claims, at.table, at.rid) {
         return Ok(Written::Claimed);

@@ -1,10 +1,10 @@
 //! One actor alone with one transaction of one table, over any store: it goes on where it is sent onward.
 
-ghost use Rattle.std.specs.Prelude.{◌≡◌, ◌≤◌, ◌<◌, IfSome, Some, true};
+ghost use Rattle.std.specs.Prelude.{◌≡◌, ◌≤◌, ◌<◌, IfSome, Some, true, false};
 ghost use Rattle.std.specs.Bool.{OnTrue};
 ghost use Rattle.store_api.specs.Catalog.{columns_of_tables};
 ghost use Rattle.store_api.specs.Effects.{IsAtRow};
-ghost use Rattle.store_trials.specs.Sole.{IsIdle, IsSole, IsWithin};
+ghost use Rattle.store_trials.specs.Sole.{IsIdle, IsSole, IsWithin, Has};
 ghost use Rattle.table_model.specs.Fitting.{fits_columns};
 
 use dby_types::number::{RowId, TxnNo};
@@ -54,7 +54,8 @@ fn makes_room<S: RowStore>(store: &mut S, t: TxnNo) -> bool
 pub fn puts<S: RowStore>(store: &mut S, t: TxnNo, row: &Row) -> Option<RowId>
     requires sole { IsSole (S.view store.old) t.0 }
     requires fits { fits_columns columns_of_tables row.now ≡ true }
-    ensures { IfSome result (λ rid. IsSole (S.view store.new) t.0) }
+    ensures sole { IfSome result (λ rid. IsSole (S.view store.new) t.0) }
+    ensures stands { IfSome result (λ rid. Has (S.view store.new) rid row.now false) }
 {
     if makes_room(store, t) {
         match store.put_row(1, t, 1, row) {
@@ -146,7 +147,8 @@ fn goes_on_from<S: RowStore>(store: &mut S, t: TxnNo) -> bool
 pub fn sets<S: RowStore>(store: &mut S, t: TxnNo, rid: RowId, row: &Row) -> bool
     requires sole { IsSole (S.view store.old) t.0 }
     requires fits { fits_columns columns_of_tables row.now ≡ true }
-    ensures { OnTrue result (IsSole (S.view store.new) t.0) }
+    ensures sole { OnTrue result (IsSole (S.view store.new) t.0) }
+    ensures stands { OnTrue result (Has (S.view store.new) rid row.now false) }
 {
     store.law();
     match store.row(1, 1, rid) {
@@ -244,7 +246,8 @@ pub fn ends_undone<S: RowStore>(store: &mut S, t: TxnNo) -> bool
 /// The actor lets go of all.
 pub fn lets_go<S: RowStore>(store: &mut S, t: TxnNo)
     requires sole { IsSole (S.view store.old) t.0 }
-    ensures { IsSole (S.view store.new) t.0 }
+    ensures sole { IsSole (S.view store.new) t.0 }
+    ensures none { ((S.view store.new).actors 1).pages ≡ 0 }
 {
     store.let_go(1);
 }

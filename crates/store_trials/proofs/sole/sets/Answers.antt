@@ -15,7 +15,7 @@ set_row-requires-clause-may g c =
 pub set_row-requires-clause-fits : goal.set_row-requires-clause-fits
 set_row-requires-clause-fits g c = fits_sole (g.S.RowStore.view c.row.new.self) c.args.t.0 c.args.row.now (same_content_sole (g.S.RowStore.view c.args.store.now) (g.S.RowStore.view c.row.new.self) c.args.t.0 c.requires.sole c.in-Ok-Row.ensures.ok.0.stored c.row.ensures.frame.others) c.requires.fits
 
-pub returns-in-Ok : goal.returns-in-Ok
-returns-in-Ok g c =
+pub returns-in-Ok-clause-sole : goal.returns-in-Ok-clause-sole
+returns-in-Ok-clause-sole g c =
     item_sole (g.S.RowStore.view c.row.new.self) (g.S.RowStore.view c.set_row.new.self) c.args.t.0 _ _ (same_content_sole (g.S.RowStore.view c.args.store.now) (g.S.RowStore.view c.row.new.self) c.args.t.0 c.requires.sole c.in-Ok-Row.ensures.ok.0.stored c.row.ensures.frame.others)
     c.in-Ok.ensures.ok.stored.stored c.set_row.ensures.frame.others
