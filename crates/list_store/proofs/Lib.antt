@@ -4,4 +4,3 @@ pub mod HeapLemmas
 pub mod SlotLemmas
 pub mod ListLemmas
 pub mod StoreLemmas
-pub mod AloneLemmas

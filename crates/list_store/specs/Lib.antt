@@ -4,4 +4,3 @@ pub mod Begun
 pub mod Lists
 pub mod Places
 pub mod Told
-pub mod Alone

@@ -9,5 +9,3 @@ pub mod holders;
 pub mod lists;
 pub mod places;
 pub mod store;
-#[cfg(test)]
-mod tests;

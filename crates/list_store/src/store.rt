@@ -49,6 +49,7 @@ fn in_the_way(begun: &Begun, holders: &Holders, a: Actor, t: TxnNo) -> Option<Ac
 }
 
 impl RowStore for ListStore {
+    ghost use Rattle.std.specs.Prelude.{◌^◌};
     ghost use Rattle.list_store.specs.Lists.{seen, IsSpent};
 
     ghost view = { seen };
@@ -69,7 +70,13 @@ impl RowStore for ListStore {
 
     ghost keeps_rules = { λ tables. Unit {0} };
 
+    ghost most_pages = { 2 ^ 31 };
+
     fn law(&self) {
+        let _ = self.holders.is_empty();
+    }
+
+    fn bound(&self) {
         let _ = self.holders.is_empty();
     }
 

@@ -47,9 +47,16 @@ pub trait RowStore {
     /// What a sound image asks of its tables.
     ghost keeps_rules: { Tables → Type 0 };
 
+    /// As many pages as its containers ever have.
+    ghost most_pages: { ℕ };
+
     /// What holds of it at any time. The call does nothing.
     fn law(&self)
         ensures { IsSound (view self.now) };
+
+    /// That its pages end, and with them the answers Onward in a row. The call does nothing.
+    fn bound(&self)
+        ensures { (view self.now).pages ≤ most_pages };
 
     /// How many actors may hold pages at once, the daemon among them: from 2 to 65.
     fn actors(&self) -> u32

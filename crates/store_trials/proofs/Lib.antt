@@ -1,0 +1,4 @@
+pub mod MarkLemmas
+pub mod OverLemmas
+pub mod ClaimLemmas
+pub mod SoleLemmas
