@@ -1,4 +1,6 @@
 pub mod NameLemmas
+pub mod PlacesLemmas
+pub mod ListedLemmas
 pub mod HoldingsLemmas
 pub mod OwnersLemmas
 pub mod ServeLemmas

@@ -1,4 +1,5 @@
 pub mod ByName
+pub mod Places
 pub mod Tallies
 pub mod Holdings
 pub mod Owners

@@ -12,7 +12,7 @@ ghost use Rattle.lock_manager.specs.Room.{FitsAsBefore, Grows, HasRoom};
 ghost use Rattle.std.specs.VecDeque.{deque_len, deque_capacity};
 ghost use Rattle.std.specs.Vec.{vec_len, vec_capacity};
 
-use crate::owners::{Owners, grant_queued, holder_in_way};
+use crate::ledger::Ledger;
 use dby_types::number::TxnNo;
 use lock_modes::entry::Request;
 use lock_modes::mode::{Mode, compatible};
@@ -40,10 +40,10 @@ pub fn asker_in_way(requests: &[Request], r: Request) -> Option<TxnNo>
 }
 
 /// A transaction in the way of a request: by what it has, or by a request among the first or the second ones.
-pub fn in_way(owners: &Owners, first: &[Request], second: &[Request], r: Request) -> Option<TxnNo>
-    ensures found { MatchOption result (IsFree (grants_in owners.now.entries) (first.now ++ second.now) r) (λ h. blocks (grants_in owners.now.entries) (first.now ++ second.now) r h ≡ true) }
+pub fn in_way(ledger: &Ledger, first: &[Request], second: &[Request], r: Request) -> Option<TxnNo>
+    ensures found { MatchOption result (IsFree (grants_in ledger.now.owners.entries) (first.now ++ second.now) r) (λ h. blocks (grants_in ledger.now.owners.entries) (first.now ++ second.now) r h ≡ true) }
 {
-    if let Some(h) = holder_in_way(owners, r) {
+    if let Some(h) = ledger.in_way(r) {
         return Some(h);
     }
     if let Some(h) = asker_in_way(first, r) {
@@ -54,14 +54,14 @@ pub fn in_way(owners: &Owners, first: &[Request], second: &[Request], r: Request
 
 /// Grants, in order, each request of a line that nothing is in the way of, and notes those that were granted.
 pub fn serve(
-    owners: &mut Owners,
+    ledger: &mut Ledger,
     before: &[Request],
     line: &mut Vec<Request>,
     woken: &mut VecDeque<Request>,
 )
-    requires waiters { Waiters owners.old.entries line.old.items }
+    requires waiters { Waiters ledger.old.owners.entries line.old.items }
     requires room { deque_len woken.old + vec_len line.old ≤ deque_capacity woken.old }
-    ensures served { Served owners.old.entries owners.new.entries before.now line.old.items line.new.items woken.old.items woken.new.items }
+    ensures served { Served ledger.old.owners.entries ledger.new.owners.entries before.now line.old.items line.new.items woken.old.items woken.new.items }
     ensures room { deque_len woken.new + vec_len line.new ≡ deque_len woken.old + vec_len line.old }
     ensures capacity { deque_capacity woken.new ≡ deque_capacity woken.old }
     ensures held { vec_capacity line.new ≡ vec_capacity line.old }
@@ -70,11 +70,11 @@ pub fn serve(
     let mut i = 0;
     'each: while i < line.len() {
         let r = line[i];
-        if in_way(owners, before, &line[..i], r).is_some() {
+        if in_way(ledger, before, &line[..i], r).is_some() {
             i += 1;
         } else {
             line.remove(i);
-            grant_queued(owners, r);
+            ledger.grant_queued(r);
             woken.push_back_reserved(r);
         }
     }
@@ -96,18 +96,18 @@ pub fn waits(conversions: &[Request], requests: &[Request], t: TxnNo) -> bool
 
 /// Grants, in the order of the queue, each request that nothing is in the way of, and notes those that were granted.
 pub fn serve_both(
-    owners: &mut Owners,
+    ledger: &mut Ledger,
     conversions: &mut Vec<Request>,
     requests: &mut Vec<Request>,
     woken: &mut VecDeque<Request>,
 )
-    requires waiters { Waiters owners.old.entries (conversions.old.items ++ requests.old.items) }
+    requires waiters { Waiters ledger.old.owners.entries (conversions.old.items ++ requests.old.items) }
     requires room { deque_len woken.old + (vec_len conversions.old + vec_len requests.old) ≤ deque_capacity woken.old }
-    ensures served { ServedBoth owners.old.entries owners.new.entries conversions.old.items requests.old.items conversions.new.items requests.new.items woken.old.items woken.new.items }
+    ensures served { ServedBoth ledger.old.owners.entries ledger.new.owners.entries conversions.old.items requests.old.items conversions.new.items requests.new.items woken.old.items woken.new.items }
     ensures room { FitsAsBefore conversions.old requests.old woken.old conversions.new requests.new woken.new }
 {
-    serve(owners, &[], conversions, woken);
-    serve(owners, conversions, requests, woken);
+    serve(ledger, &[], conversions, woken);
+    serve(ledger, conversions, requests, woken);
 }
 
 /// Takes a transaction's requests away.

@@ -5,13 +5,13 @@ use Rattle.lock_manager.proofs.BothLemmas.{waiters_front, waiters_second, served
 use Rattle.lock_manager.proofs.queue.serve_both.Goals as goal
 
 pub serve-requires-clause-waiters : goal.serve-requires-clause-waiters
-serve-requires-clause-waiters c = waiters_front c.args.owners.now.entries c.args.conversions.now.items c.args.requests.now.items c.requires.waiters
+serve-requires-clause-waiters c = waiters_front c.args.ledger.now.owners.entries c.args.conversions.now.items c.args.requests.now.items c.requires.waiters
 
 pub serve-requires-2-clause-waiters : goal.serve-requires-2-clause-waiters
-serve-requires-2-clause-waiters c = waiters_second c.args.owners.now.entries c.serve.new.owners.entries c.args.conversions.now.items c.args.requests.now.items c.serve.new.line.items c.args.woken.now.items c.serve.new.woken.items c.requires.waiters c.serve.ensures.served
+serve-requires-2-clause-waiters c = waiters_second c.args.ledger.now.owners.entries c.serve.new.ledger.owners.entries c.args.conversions.now.items c.args.requests.now.items c.serve.new.line.items c.args.woken.now.items c.serve.new.woken.items c.requires.waiters c.serve.ensures.served
 
 pub returns-clause-served : goal.returns-clause-served
 returns-clause-served c =
-    let second = subst (λ (x : List Request). Served c.serve.new.owners.entries c.serve-2.new.owners.entries x c.args.requests.now.items c.serve-2.new.line.items c.serve.new.woken.items c.serve-2.new.woken.items) c.deref.ensures.value c.serve-2.ensures.served in
-    served_both c.args.owners.now.entries c.serve.new.owners.entries c.serve-2.new.owners.entries c.args.conversions.now.items c.args.requests.now.items c.serve.new.line.items c.serve-2.new.line.items c.args.woken.now.items c.serve.new.woken.items c.serve-2.new.woken.items
+    let second = subst (λ (x : List Request). Served c.serve.new.ledger.owners.entries c.serve-2.new.ledger.owners.entries x c.args.requests.now.items c.serve-2.new.line.items c.serve.new.woken.items c.serve-2.new.woken.items) c.deref.ensures.value c.serve-2.ensures.served in
+    served_both c.args.ledger.now.owners.entries c.serve.new.ledger.owners.entries c.serve-2.new.ledger.owners.entries c.args.conversions.now.items c.args.requests.now.items c.serve.new.line.items c.serve-2.new.line.items c.args.woken.now.items c.serve.new.woken.items c.serve-2.new.woken.items
     c.requires.waiters c.serve.ensures.served second

@@ -20,8 +20,8 @@ use Rattle.lock_manager.proofs.table.LockTable.release_all.Goals as goal
 pub serve_both-requires-clause-waiters : goal.serve_both-requires-clause-waiters
 serve_both-requires-clause-waiters c =
     let s = c.args.self.now in
-    let os = s.owners.entries in
-    let os1 = c.remove.new.owners.entries in
+    let os = s.ledger.owners.entries in
+    let os1 = c.remove.new.self.owners.entries in
     let cs = without c.args.t s.conversions.items in
     let rs = without c.args.t s.requests.items in
     let gone = c.remove.ensures.gone in
@@ -36,9 +36,9 @@ serve_both-requires-clause-room c = omega (arith, c.args.self.now.room.woken_fit
 pub invariant_of-self : goal.invariant_of-self
 invariant_of-self c =
     let s = c.args.self.now in
-    let os = s.owners.entries in
-    let os1 = c.remove.new.owners.entries in
-    let os2 = c.serve_both.new.owners.entries in
+    let os = s.ledger.owners.entries in
+    let os1 = c.remove.new.self.owners.entries in
+    let os2 = c.serve_both.new.ledger.owners.entries in
     let cs = without c.args.t s.conversions.items in
     let rs = without c.args.t s.requests.items in
     let gone = c.remove.ensures.gone in
@@ -67,9 +67,9 @@ invariant_of-self c =
 pub returns-clause-ok : goal.returns-clause-ok
 returns-clause-ok c =
     let s = c.args.self.now in
-    let os = s.owners.entries in
-    let os1 = c.remove.new.owners.entries in
-    let os2 = c.serve_both.new.owners.entries in
+    let os = s.ledger.owners.entries in
+    let os1 = c.remove.new.self.owners.entries in
+    let os2 = c.serve_both.new.ledger.owners.entries in
     let cs = without c.args.t s.conversions.items in
     let rs = without c.args.t s.requests.items in
     let gone = c.remove.ensures.gone in
@@ -91,9 +91,9 @@ returns-clause-ok c =
 pub returns-clause-settled : goal.returns-clause-settled
 returns-clause-settled c =
     let s = c.args.self.now in
-    let os = s.owners.entries in
-    let os1 = c.remove.new.owners.entries in
-    let os2 = c.serve_both.new.owners.entries in
+    let os = s.ledger.owners.entries in
+    let os1 = c.remove.new.self.owners.entries in
+    let os2 = c.serve_both.new.ledger.owners.entries in
     let cs = without c.args.t s.conversions.items in
     let rs = without c.args.t s.requests.items in
     let gone = c.remove.ensures.gone in

@@ -1,0 +1,8 @@
+use Rattle.std.proofs.Common.{◌≡◌, ◌∙◌, arith}
+use Rattle.lock_manager.proofs.PlacesLemmas.{free_behind}
+use Rattle.lock_manager.proofs.places.end.Goals as goal
+
+pub returns : goal.returns
+returns c =
+    let all : c.each.i ≡ c.len-len.result = omega (arith, c.each.invariant.within) in
+    record { exact = record { free = free_behind c.args.places.now c.requires.packed c.args.name c.each.i (all ∙ c.len-len.ensures.len); taken = c.each.invariant.taken } }
