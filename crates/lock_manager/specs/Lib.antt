@@ -4,6 +4,7 @@ pub mod Tallies
 pub mod Holdings
 pub mod Owners
 pub mod OwnerSteps
+pub mod Freed
 pub mod Serve
 pub mod Blocking
 pub mod Table

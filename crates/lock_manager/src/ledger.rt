@@ -6,6 +6,7 @@ ghost use Rattle.lock_manager.specs.Owners.{grants_in, claims_sum};
 ghost use Rattle.lock_manager.specs.Places.{IsPacked, IsListed, IsPacked-prop, IsListed-prop};
 
 use crate::hindering;
+use crate::owner::Owner;
 use crate::owners::{self, Owners};
 use crate::places::{Places, list, unlist};
 use crate::unlisting::{unlist_all, unlist_rows};
@@ -153,14 +154,16 @@ impl Ledger {
     }
 
     /// Takes a transaction's record away, with all that it has.
-    pub fn remove(&mut self, txn: TxnNo)
+    pub fn remove(&mut self, txn: TxnNo) -> Option<Owner>
+        ensures owner { result ≡ owner_of self.old.owners.entries txn }
         ensures grants { (u : TxnNo) (n : LockName) → grants_in self.new.owners.entries u n ≡ released_all (grants_in self.old.owners.entries) txn u n }
         ensures gone { IsGone self.old.owners.entries self.new.owners.entries txn }
         ensures total { left_sum self.new.owners.entries + left_in self.old.owners.entries txn ≡ left_sum self.old.owners.entries }
     {
         self.claims -= owners::claim(&self.owners, txn);
         let owner = owners::remove(&mut self.owners, txn);
-        unlist_all(&mut self.places, owner, txn);
+        unlist_all(&mut self.places, &owner, txn);
+        owner
     }
 
     /// Gives a transaction a record, if it has none.

@@ -3,6 +3,7 @@
 
 pub mod better;
 pub mod blocking;
+pub mod freed;
 pub mod hindering;
 pub mod holders;
 pub mod holdings;

@@ -140,6 +140,7 @@ pub fn choose(owners: &mut Owners, txn: TxnNo)
 
 /// Takes a transaction's record away.
 pub fn remove(owners: &mut Owners, txn: TxnNo) -> Option<Owner>
+    ensures owner { result ≡ owner_of owners.old.entries txn }
     ensures grants { (u : TxnNo) (n : LockName) → grants_in owners.new.entries u n ≡ released_all (grants_in owners.old.entries) txn u n }
     ensures gone { IsGone owners.old.entries owners.new.entries txn }
     ensures total { left_sum owners.new.entries + left_in owners.old.entries txn ≡ left_sum owners.old.entries }

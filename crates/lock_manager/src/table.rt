@@ -13,6 +13,7 @@ ghost use Rattle.lock_manager.specs.Owners.{left_sum, waits_in, grants_in};
 ghost use Rattle.lock_manager.specs.Serve.{Waiters, is_among};
 
 use crate::blocking::{least_blocker, request_of};
+use crate::freed::{Freed, name_of};
 use crate::holders::{self, Holders};
 use crate::ledger::Ledger;
 use crate::owners;
@@ -319,6 +320,7 @@ impl LockTable {
         self.ledger.release(t, name);
         serve_both(
             &mut self.ledger,
+            &Freed::Name(name),
             &mut self.conversions,
             &mut self.requests,
             &mut self.woken,
@@ -359,6 +361,7 @@ impl LockTable {
         self.ledger.release_rows(t, table);
         serve_both(
             &mut self.ledger,
+            &Freed::Rows(table),
             &mut self.conversions,
             &mut self.requests,
             &mut self.woken,
@@ -373,12 +376,14 @@ impl LockTable {
         ensures room { (u : TxnNo) → spare_of self.new u ≡ (if same_txn t u then 0 else spare_of self.old u) }
     {
         let left = owners::left(&self.ledger.owners, t);
-        self.ledger.remove(t);
+        let asked = name_of(request_of(&self.conversions, &self.requests, t));
+        let had = self.ledger.remove(t);
         self.left -= left as usize;
         drop_requests(&mut self.conversions, t);
         drop_requests(&mut self.requests, t);
         serve_both(
             &mut self.ledger,
+            &Freed::All { had, asked },
             &mut self.conversions,
             &mut self.requests,
             &mut self.woken,

@@ -39,7 +39,7 @@ fn unlist_some(places: &mut Places, modes: &HashMap<LockName, Modes>, txn: TxnNo
 }
 
 /// Takes a transaction, whose record is gone, out of the lists of all that it had.
-pub fn unlist_all(places: &mut Places, owner: Option<Owner>, txn: TxnNo)
+pub fn unlist_all(places: &mut Places, owner: &Option<Owner>, txn: TxnNo)
     requires { IsPacked places.old }
     ensures packed { IsPacked places.new }
     ensures kept { Unlists places.old places.new (λ k. true) txn }

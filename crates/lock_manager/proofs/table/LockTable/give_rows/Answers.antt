@@ -2,6 +2,8 @@ use Rattle.std.proofs.Common.{◌++◌, ◌∙◌, [], ap, sym, subst, arith}
 use Rattle.lock_modes.specs.Lock.{Grants}
 use Rattle.lock_modes.specs.Serving.{Serves}
 use Rattle.lock_manager.specs.Owners.{grants_in, victim_in}
+use Rattle.lock_modes.specs.Names.{is_row_name}
+use Rattle.lock_manager.proofs.FreedLemmas.{rows_agree, still_settled}
 use Rattle.lock_manager.specs.Table.{lock}
 use Rattle.lock_manager.proofs.BothLemmas.{only_left, settled_both, state_both}
 use Rattle.lock_manager.proofs.TableLemmas.{keep_total, keep_waits, keep_lefts, keep_victims, waiters_same, grants_path}
@@ -65,3 +67,10 @@ returns-clause-room c =
     let s = c.args.self.now in
     let after = released_rows (grants_in s.ledger.owners.entries) c.args.t c.args.table in
     λ u. c.serve_both.ensures.served.wakes.lefts u ∙ keep_lefts s.ledger.owners.entries c.release_rows.new.self.owners.entries c.args.t after c.release_rows.ensures.changes c.release_rows.ensures.room u
+
+pub serve_both-requires-clause-still : goal.serve_both-requires-clause-still
+serve_both-requires-clause-still c =
+    let s = c.args.self.now in
+    let g = grants_in s.ledger.owners.entries in
+    let g' = grants_in c.release_rows.new.self.owners.entries in
+    still_settled (is_row_name c.args.table) g g' [] (s.conversions.items ++ s.requests.items) (rows_agree g g' c.args.t c.args.table c.release_rows.ensures.changes.grants_are) s.settled

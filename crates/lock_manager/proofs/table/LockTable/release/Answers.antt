@@ -3,6 +3,8 @@ use Rattle.lock_modes.specs.Lock.{Grants, released, apply}
 use Rattle.lock_modes.specs.Serving.{Serves}
 use Rattle.lock_modes.specs.declared.event.LockEvent.TheVariants.{Released}
 use Rattle.lock_manager.specs.Owners.{grants_in, victim_in}
+use Rattle.lock_modes.specs.Names.{same_name}
+use Rattle.lock_manager.proofs.FreedLemmas.{released_agrees, still_settled}
 use Rattle.lock_manager.specs.Table.{lock}
 use Rattle.lock_manager.proofs.BothLemmas.{only_left, settled_both, state_both}
 use Rattle.lock_manager.proofs.TableLemmas.{keep_total, keep_waits, keep_lefts, keep_victims, waiters_same, grants_path}
@@ -70,3 +72,10 @@ returns-clause-room c =
     let s = c.args.self.now in
     let after = released (grants_in s.ledger.owners.entries) c.args.t c.args.name in
     λ u. c.serve_both.ensures.served.wakes.lefts u ∙ keep_lefts s.ledger.owners.entries c.release.new.self.owners.entries c.args.t after c.release.ensures.changes c.release.ensures.room u
+
+pub serve_both-requires-clause-still : goal.serve_both-requires-clause-still
+serve_both-requires-clause-still c =
+    let s = c.args.self.now in
+    let g = grants_in s.ledger.owners.entries in
+    let g' = grants_in c.release.new.self.owners.entries in
+    still_settled (same_name c.args.name) g g' [] (s.conversions.items ++ s.requests.items) (released_agrees g g' c.args.t c.args.name c.release.ensures.changes.grants_are) s.settled
