@@ -62,7 +62,6 @@ alike_less p b b' r passes same q h none =
     nothing : asks_before (r ∷ []) q h ≡ false
     nothing = or_no (same_txn r.txn h && opposes r q) ∙ ap (λ x. same_txn r.txn h && x) (ap (λ x. x && not (compatible r.mode q.mode)) (other_name p r.name q.name passes none)) ∙ and_no (same_txn r.txn h)
 
-
 blocked_alike : (p : LockName → Bool) (g g' : Grants) (b b' : List Request) (r : Request) → Agrees p g g' → AsksAlike p b b' → p r.name ≡ false → IsBlocked g b r → IsBlocked g' b' r
 blocked_alike p g g' b b' r agrees same none k free =
     k (λ h. sym (λ i. not (same_txn h r.txn) && (hinders (agrees h r.name none i) r.mode || same r h none i)) ∙ free h)
@@ -145,11 +144,11 @@ one_request held os t (r ∷ rs) w =
     let rest = one_request held os t rs w.2 in
     let cases = λ (x : Bool) (s : same_txn r.txn t ≡ x).
     (elim x as (λ y. same_txn r.txn t ≡ y → (y ≡ true → (held r.name || asks (name_of (cond y (Some r) (find (λ q. same_txn q.txn t) rs))) r.name) ≡ true)
-            × AllPass (λ k. held k || asks (name_of (cond y (Some r) (find (λ q. same_txn q.txn t) rs))) k) t rs) [
+    × AllPass (λ k. held k || asks (name_of (cond y (Some r) (find (λ q. same_txn q.txn t) rs))) k) t rs) [
       | true ↦ λ s. (
-          (λ _. or_right (held r.name) (same_name r.name r.name) (name_refl r.name)),
-          no_request (λ k. held k || same_name r.name k) t rs (ap (λ (u : TxnNo). is_among u rs) (sym (txn_eq r.txn t s)) ∙ w.1),
-        )
+        (λ _. or_right (held r.name) (same_name r.name r.name) (name_refl r.name)),
+        no_request (λ k. held k || same_name r.name k) t rs (ap (λ (u : TxnNo). is_among u rs) (sym (txn_eq r.txn t s)) ∙ w.1),
+      )
       | false ↦ λ _. ((λ s. absurd (both_ways _ refl s)), rest)
     ]) s in
     let both = cases (same_txn r.txn t) refl in

@@ -100,6 +100,17 @@ taken_below m packed n i j less taken =
     (elim x as (λ w. is_taken m n i ≡ w → w ≡ true) [ true ↦ λ _. refl | false ↦ λ s. absurd (both_ways _ (packed n i j less s) taken) ]) e in
     cases (is_taken m n i) refl
 
+pub taken_short : {S : Type 0} (m : HashMap Place TxnNo S) (n : LockName) (k : ℕ) → ((i : ℕ) → i < k → is_taken m n i ≡ true) → k ≤ length m.entries
+taken_short m n k taken = short n k m.entries taken
+
+-- where a transaction stands, and below, no place is free
+pub taken_here : {S : Type 0} (m : HashMap Place TxnNo S) → IsPacked m → (n : LockName) (i : ℕ) (t : TxnNo) → is_one (holder_at m n i) t ≡ true → (j : ℕ) → j < i + 1 → is_taken m n j ≡ true
+taken_here m packed n i t one j less = taken_below m packed n j i (omega (arith, less)) (somebody (holder_at m n i) one)
+  where
+    somebody : (o : Option TxnNo) → is_one o t ≡ true → is_some o ≡ true
+    somebody None h = absurd (both_ways _ refl h)
+    somebody (Some h) k = refl
+
 -- behind as many places as the map has, all are free
 pub free_behind : {S : Type 0} (m : HashMap Place TxnNo S) → IsPacked m → (n : LockName) (k : ℕ) → k ≡ length m.entries → is_taken m n k ≡ false
 free_behind m packed n k long =

@@ -1,6 +1,6 @@
 //! Who has something on a name, listed by name. Each place of a list is an entry of one map, so that a list needs no memory of its own.
 
-ghost use Rattle.std.specs.Prelude.{◌≡◌, ◌≤◌, ◌<◌, ◌+◌, ◌&&◌, ℕ, true, false, MatchOption};
+ghost use Rattle.std.specs.Prelude.{◌≡◌, ◌≤◌, ◌<◌, ◌+◌, ◌^◌, ◌&&◌, ℕ, true, false, MatchOption};
 ghost use Rattle.std.specs.HashMap.{spare};
 ghost use Rattle.lock_modes.specs.Names.{same_name};
 ghost use Rattle.lock_manager.specs.Places.{holder_at, is_taken, is_one, IsPacked, IsEnd, IsFilled, Lists, Unlists};
@@ -29,13 +29,15 @@ pub fn holder(places: &Places, name: LockName, number: usize) -> Option<TxnNo>
     }
 }
 
-/// The first free place of a name's list.
-fn end(places: &Places, name: LockName) -> usize
+/// The first free place of a name's list, none of whose first places is free.
+fn end(places: &Places, name: LockName, from: usize) -> usize
     requires packed { IsPacked places.now }
+    requires taken { (i : ℕ) → i < from → is_taken places.now name i ≡ true }
     ensures exact { IsEnd places.now name result }
+    ensures above { from ≤ result }
 {
     let len = places.len();
-    let mut i = 0;
+    let mut i = from;
     'each: while i < len {
         if holder(places, name, i).is_none() {
             return i;
@@ -45,28 +47,22 @@ fn end(places: &Places, name: LockName) -> usize
     i
 }
 
-/// The place below a given one at which a transaction stands.
-fn place_of(places: &Places, name: LockName, txn: TxnNo, end: usize) -> Option<usize>
-    ensures found { MatchOption result (Unit {0}) (λ i. (i < end) × (is_one (holder_at places.now name i) txn ≡ true)) }
+/// The place at which a transaction stands.
+fn place_of(places: &Places, name: LockName, txn: TxnNo) -> Option<usize>
+    ensures found { MatchOption result (Unit {0}) (λ i. (i < 2 ^ 63) × (is_one (holder_at places.now name i) txn ≡ true)) }
 {
+    let len = places.len();
     let mut i = 0;
-    'each: while i < end {
-        if is_there(holder(places, name, i), txn) {
+    'each: while i < len {
+        let Some(h) = holder(places, name, i) else {
+            return None;
+        };
+        if is_same_txn(h, txn) {
             return Some(i);
         }
         i += 1;
     }
     None
-}
-
-/// Whether it is this transaction that stands there.
-fn is_there(holder: Option<TxnNo>, txn: TxnNo) -> bool
-    ensures exact { result ≡ is_one holder txn }
-{
-    match holder {
-        Some(h) => is_same_txn(h, txn),
-        None => false,
-    }
 }
 
 /// Lists a transaction under a name.
@@ -77,7 +73,7 @@ pub fn list(places: &mut Places, name: LockName, txn: TxnNo)
     ensures listed { Lists places.old places.new name txn }
     ensures room { spare places.old ≤ spare places.new + 1 }
 {
-    let number = end(places, name);
+    let number = end(places, name, 0);
     let _ = places.insert(Place { name, number }, txn);
 }
 
@@ -88,8 +84,8 @@ pub fn unlist(places: &mut Places, name: LockName, txn: TxnNo)
     ensures kept { Unlists places.old places.new (same_name name) txn }
     ensures room { spare places.old ≤ spare places.new }
 {
-    let end = end(places, name);
-    if let Some(number) = place_of(places, name, txn, end) {
+    if let Some(number) = place_of(places, name, txn) {
+        let end = end(places, name, number + 1);
         fill(places, name, number, end - 1);
     }
 }

@@ -56,13 +56,7 @@ pub fn in_way(ledger: &Ledger, first: &[Request], second: &[Request], r: Request
 }
 
 /// Whether a request stays in its line, where those for names that weren't freed still wait: they needn't be looked at.
-fn stays(
-    ledger: &Ledger,
-    freed: &Freed,
-    first: &[Request],
-    second: &[Request],
-    r: Request,
-) -> bool
+fn stays(ledger: &Ledger, freed: &Freed, first: &[Request], second: &[Request], r: Request) -> bool
     requires { frees freed.now r.name ≡ false → IsBlocked (grants_in ledger.now.owners.entries) (first.now ++ second.now) r }
     ensures blocked { result ≡ true → IsBlocked (grants_in ledger.now.owners.entries) (first.now ++ second.now) r }
     ensures free { result ≡ false → IsFree (grants_in ledger.now.owners.entries) (first.now ++ second.now) r }

@@ -5,6 +5,7 @@ use Rattle.lock_manager.proofs.places.end.Given as goal
 abbrev pub invariant-each : goal.invariant-each
 invariant-each l = record {
   within : l.i ≤ l.len;
+  above : l.from ≤ l.i;
   taken : (k : ℕ) → k < l.i → is_taken l.places l.name k ≡ true;
 }
 
