@@ -1,6 +1,6 @@
 //! Locks taken and given back again and again, for a clock outside.
 //!
-//! A line of standard input names a work, how often it is done and how many names another transaction holds meanwhile, as in
+//! A line of standard input names a work, how often it is done and how many names 64 other transactions hold meanwhile, as in
 //! `rows 1000 0`; its answer is a number that stands on all that was done.
 #![tactic(auto)]
 

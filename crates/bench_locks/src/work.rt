@@ -15,7 +15,7 @@ use std::alloc::{AllocError, Global};
 
 const MANY: u64 = 64;
 
-/// The transaction that holds names beside the others.
+/// The first of 64 transactions that hold names beside the others.
 const OTHER: u64 = 1000;
 
 /// A row's name.
@@ -80,11 +80,16 @@ fn take_each(l: &mut LockTable, t: TxnNo, table: u32, times: u32) -> u64 {
     found
 }
 
-/// A table of locks in which one transaction holds so many rows.
+/// A table of locks in which 64 transactions hold so many rows, each of them as many as the others.
 pub fn beside(alloc: Global, others: u32) -> Result<LockTable, AllocError> {
     let mut l = LockTable::new(alloc);
-    l.reserve(TxnNo(OTHER), others)?;
-    let _ = take_each(&mut l, TxnNo(OTHER), 17, others);
+    if others > 0 {
+        for t in 0..MANY {
+            let each = others / 64;
+            l.reserve(TxnNo(OTHER + t), each)?;
+            let _ = take_each(&mut l, TxnNo(OTHER + t), 17 + t as u32, each);
+        }
+    }
     Ok(l)
 }
 

@@ -1,8 +1,7 @@
 -- The least of those in the way.
 use Rattle.std.proofs.Common.{◌≡◌, ◌<◌, ◌≤◌, Bool, true, false, refl, sym, ◌∙◌, ap, cond, List, [], ◌∷◌, ◌++◌, subst, arith, Option, Some, None}
 use Rattle.std.specs.Prelude.{◌&&◌, ◌||◌, not, nat_lt}
-use Rattle.std.specs.List.{list_any, find, IsDistinct, AllByRecursion}
-use Rattle.std.specs.Map.{lookup, keys_of}
+use Rattle.std.specs.List.{list_any, find}
 use Rattle.std.proofs.lemmas.Bool.{both_ways, and_parts, or_left, or_right, ltb-true, ltb-false}
 use Rattle.std.proofs.lemmas.List.Folds.{list_any-append}
 use Rattle.dby_types.specs.declared.number.TxnNo.{TxnNo}
@@ -12,11 +11,8 @@ use Rattle.lock_modes.specs.Modes.{hinders}
 use Rattle.lock_modes.specs.Names.{same_txn}
 use Rattle.lock_modes.specs.Lock.{Lock, Grants, queue, request}
 use Rattle.lock_modes.specs.Waits.{opposes, asks_before, blocks, ahead, waiting, waits_for, blocks_wait, IsEdge}
-use Rattle.lock_modes.proofs.ModesLemmas.{hinders_none}
-use Rattle.lock_modes.proofs.NamesLemmas.{txn_eq, txn_refl, txn_equiv}
+use Rattle.lock_modes.proofs.NamesLemmas.{txn_eq, txn_refl}
 use Rattle.lock_manager.specs.Blocking.{is_above, is_below, better, least_by, IsLeast, IsBlocker, IsUnblocked}
-use Rattle.lock_manager.specs.Holdings.{modes_in}
-use Rattle.lock_manager.specs.Owners.{Owners, modes_of, grants_in, is_in_way}
 use Rattle.lock_manager.specs.Serve.{is_among}
 
 or_none : (a b : Bool) → (a || b) ≡ false → (a ≡ false) × (b ≡ false)
@@ -41,7 +37,7 @@ least_same p q above None same k = λ h a. same h ∙ k h a
 least_same p q above (Some b) same k = (same b ∙ k.0, k.1, λ h a below. same h ∙ k.2 h a below)
 
 -- the test with one more that passes, where it does
-abbrev with_one : (TxnNo → Bool) → TxnNo → Bool → TxnNo → Bool
+abbrev pub with_one : (TxnNo → Bool) → TxnNo → Bool → TxnNo → Bool
 with_one p t passes h = p h || (same_txn t h && passes)
 
 -- nothing new passes
@@ -81,7 +77,7 @@ least_skips p above best t passes skip k = keep best k
     keep (Some b) k = (or_left (p b) _ k.0, k.1, λ h a below. with_none p t h passes (other h a) ∙ k.2 h a below)
 
 -- one more was looked at
-least_next : (p : TxnNo → Bool) (above best : Option TxnNo) (t : TxnNo) (passes : Bool) → IsLeast p above best → IsLeast (with_one p t passes) above (better above best passes t)
+pub least_next : (p : TxnNo → Bool) (above best : Option TxnNo) (t : TxnNo) (passes : Bool) → IsLeast p above best → IsLeast (with_one p t passes) above (better above best passes t)
 least_next p above best t passes k =
     let cases = λ (b : Bool) (e : (passes && is_above above t) ≡ b).
     (elim b as (λ x. (passes && is_above above t) ≡ x → IsLeast (with_one p t passes) above (better above best passes t)) [
@@ -120,36 +116,6 @@ least_all test number p above best (x ∷ xs) k =
     least_same (λ h. with_one p (number x) (test x) h || list_any (λ x. same_txn (number x) h && test x) xs) (λ h. p h || (same_txn (number x) h && test x || list_any (λ x. same_txn (number x) h && test x) xs)) above
     (least_by test number above (better above best (test x) (number x)) xs)
     (λ h. sym (or_assoc (p h) (same_txn (number x) h && test x) (list_any (λ x. same_txn (number x) h && test x) xs))) rest
-
--- whose number isn't among the keys
-no_key : (r : Request) (h : TxnNo) (es : Owners) → AllByRecursion (λ y. same_txn h y ≡ false) (keys_of es) → list_any (λ e. same_txn e.0 h && is_in_way r e) es ≡ false
-no_key r h [] a = refl
-no_key r h (e ∷ es) a =
-    ap (λ b. (b && is_in_way r e) || list_any (λ e. same_txn e.0 h && is_in_way r e) es) (txn_equiv.symm e.0 h ∙ a.0) ∙ no_key r h es a.1
-
--- an entry under a number is the record that is found there
-one_record : (r : Request) (h : TxnNo) (es : Owners) → IsDistinct same_txn (keys_of es) → list_any (λ e. same_txn e.0 h && is_in_way r e) es ≡ (not (same_txn h r.txn) && hinders (modes_of (lookup (same_txn h) es) r.name) r.mode)
-unfolding IsDistinct
-one_record r h [] a = sym (ap (λ b. not (same_txn h r.txn) && b) (hinders_none r.mode) ∙ and_no (not (same_txn h r.txn)))
-one_record r h (e ∷ es) a =
-    let rest = one_record r h es a.1 in
-    let flip = txn_equiv.symm e.0 h in
-    let cases = λ (b : Bool) (q : same_txn h e.0 ≡ b).
-    (elim b as (λ x. same_txn h e.0 ≡ x → ((same_txn e.0 h && is_in_way r e) || list_any (λ e. same_txn e.0 h && is_in_way r e) es) ≡ (not (same_txn h r.txn) && hinders (modes_of (cond x (Some e.1) (lookup (same_txn h) es)) r.name) r.mode)) [
-      | true ↦ λ s.
-          let same = txn_eq h e.0 s in
-          let none : list_any (λ e. same_txn e.0 h && is_in_way r e) es ≡ false = no_key r h es (subst (λ (u : TxnNo). AllByRecursion (λ y. same_txn u y ≡ false) (keys_of es)) (sym same) a.0) in
-          ap (λ b. (b && is_in_way r e) || list_any (λ e. same_txn e.0 h && is_in_way r e) es) (flip ∙ s) ∙ ap (λ b. is_in_way r e || b) none ∙ or_no (is_in_way r e)
-          ∙ ap (λ u. not (same_txn u r.txn) && hinders (modes_in e.1.holdings r.name) r.mode) (sym same)
-      | false ↦ λ s. ap (λ b. (b && is_in_way r e) || list_any (λ e. same_txn e.0 h && is_in_way r e) es) (flip ∙ s) ∙ rest
-    ]) q in
-    cases (same_txn h e.0) refl
-
-pub least_of_owners : (r : Request) (above : Option TxnNo) (os : Owners) → IsDistinct same_txn (keys_of os)
-    → IsLeast (λ h. not (same_txn h r.txn) && hinders (grants_in os h r.name) r.mode) above (least_by (is_in_way r) (λ e. e.0) above None os)
-least_of_owners r above os apart =
-    least_same (λ h. false || list_any (λ e. same_txn e.0 h && is_in_way r e) os) (λ h. not (same_txn h r.txn) && hinders (grants_in os h r.name) r.mode) above
-    (least_by (is_in_way r) (λ e. e.0) above None os) (λ h. sym (one_record r h os apart)) (least_all (is_in_way r) (λ e. e.0) (λ h. false) above None os (λ h a. refl))
 
 -- who waits isn't among those ahead
 ahead_others : (t : TxnNo) (rs : List Request) → is_among t (ahead t rs) ≡ false

@@ -1,6 +1,9 @@
 pub mod NameLemmas
+pub mod PlacesLemmas
+pub mod ListedLemmas
 pub mod HoldingsLemmas
 pub mod OwnersLemmas
+pub mod FreedLemmas
 pub mod ServeLemmas
 pub mod BlockedLemmas
 pub mod TableLemmas

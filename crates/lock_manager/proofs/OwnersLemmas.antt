@@ -1,26 +1,25 @@
 -- The table of grants as the records of the open transactions tell it.
-use Rattle.std.proofs.Common.{◌≡◌, Bool, true, false, refl, sym, ◌∙◌, ap, cond, [], ◌∷◌, ◌+◌, ◌<◌, arith, Option, Some, None, subst, ◌⊎◌, inl, inr}
-use Rattle.std.specs.Prelude.{◌&&◌, ◌||◌, not}
-use Rattle.std.specs.List.{list_any, sum_by}
+use Rattle.std.proofs.Common.{◌≡◌, ℕ, Bool, true, false, refl, sym, ◌∙◌, ap, cond, [], ◌∷◌, ◌+◌, ◌<◌, ◌≤◌, arith, Option, Some, None, ◌⊎◌, inl, inr}
+use Rattle.std.specs.Prelude.{◌&&◌, ◌||◌}
+use Rattle.std.specs.List.{sum_by}
 use Rattle.std.specs.Option.{is_some}
 use Rattle.std.specs.Map.{lookup, set_value, remove_entry}
 use Rattle.std.specs.List.Sorted.{IsPermutation}
 use Rattle.std.proofs.lemmas.List.Recursion.{is_sum_by}
 use Rattle.std.proofs.lemmas.List.Sorted.{sum_by-IsPermutation}
-use Rattle.std.proofs.lemmas.Bool.{both_ways, and_parts, and_from}
+use Rattle.std.proofs.lemmas.Bool.{both_ways, and_parts}
 use Rattle.dby_types.specs.declared.number.TxnNo.{TxnNo}
-use Rattle.lock_modes.specs.declared.entry.Request.{Request}
-use Rattle.lock_modes.specs.declared.mode.Mode.{Mode}
 use Rattle.lock_modes.specs.declared.modes.Modes.{Modes}
 use Rattle.lock_modes.specs.declared.name.LockName.{LockName}
 use Rattle.lock_modes.specs.Lock.{Grants, released, released_all}
-use Rattle.lock_modes.specs.Modes.{no_modes, hinders, is_held}
+use Rattle.lock_modes.specs.Modes.{no_modes, is_held}
 use Rattle.lock_modes.specs.Names.{same_name, same_txn}
-use Rattle.lock_modes.proofs.ModesLemmas.{hinders_none, held_none}
+use Rattle.lock_modes.proofs.ModesLemmas.{held_none}
 use Rattle.lock_modes.proofs.NamesLemmas.{txn_eq, txn_refl}
 use Rattle.lock_manager.specs.declared.owner.Owner.{Owner}
 use Rattle.lock_manager.specs.Holdings.{modes_in}
-use Rattle.lock_manager.specs.Owners.{Owners, modes_of, grants_in, is_in_way, is_hindering, left_of, waits_of, victim_of, left_in, waits_in, left_sum, Changes, IsSame}
+use Rattle.lock_manager.specs.Owners.{Owners, modes_of, grants_in, left_of, waits_of, victim_of, left_in, waits_in, left_sum, claim_in, claims_sum, Changes, IsSame}
+use Rattle.lock_manager.specs.Tallies.{one}
 
 and_no : (a : Bool) → (a && false) ≡ false
 and_no true = refl
@@ -29,24 +28,6 @@ and_no false = refl
 or_none : (a b : Bool) → (a || b) ≡ false → (a ≡ false) × (b ≡ false)
 or_none true b h = absurd (both_ways true h refl)
 or_none false b h = (refl, h)
-
--- where nobody's record is in the way, nobody is
-pub none_in_way : (r : Request) (os : Owners) → list_any (is_in_way r) os ≡ false → (h : TxnNo) → (not (same_txn h r.txn) && hinders (grants_in os h r.name) r.mode) ≡ false
-none_in_way r [] none h = ap (λ b. not (same_txn h r.txn) && b) (hinders_none r.mode) ∙ and_no (not (same_txn h r.txn))
-none_in_way r (e ∷ es) none h =
-    let parts = or_none (is_in_way r e) (list_any (is_in_way r) es) none in
-    let cases = λ (b : Bool) (q : same_txn h e.0 ≡ b).
-    (elim b as (λ w. same_txn h e.0 ≡ w → (not (same_txn h r.txn) && hinders (modes_of (cond w (Some e.1) (lookup (same_txn h) es)) r.name) r.mode) ≡ false) [
-      | true ↦ λ t. subst (λ (u : TxnNo). (not (same_txn u r.txn) && hinders (modes_in e.1.holdings r.name) r.mode) ≡ false) (sym (txn_eq h e.0 t)) parts.0
-      | false ↦ λ _. none_in_way r es parts.1 h
-    ]) q in
-    cases (same_txn h e.0) refl
-
--- a record that is in the way is of one who is
-pub one_in_way : (r : Request) (os : Owners) (t : TxnNo) (o : Owner) → lookup (same_txn t) os ≡ Some o → same_txn t r.txn ≡ false → hinders (modes_in o.holdings r.name) r.mode ≡ true
-    → (not (same_txn t r.txn) && hinders (grants_in os t r.name) r.mode) ≡ true
-one_in_way r os t o found other hindered =
-    and_from _ _ (ap not other) (ap (λ (x : Option Owner). hinders (modes_of x r.name) r.mode) found ∙ hindered)
 
 -- what is read of a transaction's record after another record was put under a number
 pub put_owner : {X : Type 0} (f : Option Owner → X) (m n : Owners) (t : TxnNo) (w : Option Owner)
@@ -119,6 +100,22 @@ sum_set t (e ∷ es) o w h =
     ]) in
     cases (same_txn t e.0) refl h
 
+-- what all may take after one record was changed
+claims_set : (t : TxnNo) (os : Owners) (o w : Owner) → lookup (same_txn t) os ≡ Some o → claims_sum (set_value (same_txn t) os w) + (o.left + one o.waits) ≡ claims_sum os + (w.left + one w.waits)
+claims_set t [] o w h = absurd (cc h)
+claims_set t (e ∷ es) o w h =
+    let cases = λ (b : Bool) (q : same_txn t e.0 ≡ b).
+    (elim b as (λ x. cond x (Some e.1) (lookup (same_txn t) es) ≡ Some o → claims_sum (cond x ((e.0, w) ∷ es) (e ∷ set_value (same_txn t) es w)) + (o.left + one o.waits) ≡ ((e.1.left + one e.1.waits) + claims_sum es) + (w.left + one w.waits)) [
+      | true ↦ λ s. let k : e.1 ≡ o = cc s in let l : e.1.left + one e.1.waits ≡ o.left + one o.waits = ap (λ (z : Owner). z.left + one z.waits) k in
+          let g : ((w.left + one w.waits) + claims_sum es) + (o.left + one o.waits) ≡ ((e.1.left + one e.1.waits) + claims_sum es) + (w.left + one w.waits) = omega (arith, l) in g
+      | false ↦ λ s. let k = claims_set t es o w s in
+          let g : ((e.1.left + one e.1.waits) + claims_sum (set_value (same_txn t) es w)) + (o.left + one o.waits) ≡ ((e.1.left + one e.1.waits) + claims_sum es) + (w.left + one w.waits) = omega (arith, k) in g
+    ]) in
+    cases (same_txn t e.0) refl h
+
+sum_moves : (n s m x x' y y' : ℕ) → n ≡ s → s + x ≡ m + y → x' ≡ x → y' ≡ y → n + x' ≡ m + y'
+sum_moves n s m x x' y y' a b c d = ap (λ z. z + x') a ∙ ap (λ z. s + z) c ∙ b ∙ ap (λ z. m + z) (sym d)
+
 -- the records of others stay
 others : {X : Type 0} (f : Option Owner → X) (m n : Owners) (t : TxnNo) (w : Owner)
     → ((q : TxnNo) → lookup (same_txn q) n ≡ cond (same_txn t q) (Some w) (lookup (same_txn q) m))
@@ -135,6 +132,8 @@ pub changes : (m n : Owners) (t : TxnNo) (o w : Owner) (g : Grants)
 changes m n t o w g put set was grants =
     let mine : left_in n t ≡ w.left = put_owner left_of m n t (Some w) put t ∙ ap (λ b. cond b w.left (left_of (lookup (same_txn t) m))) (txn_refl t) in
     let mine_before : left_in m t ≡ o.left = ap left_of (sym was) in
+    let waits_mine : waits_in n t ≡ w.waits = put_owner waits_of m n t (Some w) put t ∙ ap (λ b. cond b w.waits (waits_of (lookup (same_txn t) m))) (txn_refl t) in
+    let waits_before : waits_in m t ≡ o.waits = ap waits_of (sym was) in
     let sum : left_sum n ≡ left_sum (set_value (same_txn t) m w) = ap left_sum set in
     let set_sum : left_sum (set_value (same_txn t) m w) + o.left ≡ left_sum m + w.left = sum_set t m o w (sym was) in
     record {
@@ -143,6 +142,8 @@ changes m n t o w g put set was grants =
       others_wait = others waits_of m n t w put;
       others_victims = others victim_of m n t w put;
       total = ap (λ x. x + left_in m t) sum ∙ ap (λ x. left_sum (set_value (same_txn t) m w) + x) mine_before ∙ set_sum ∙ ap (λ x. left_sum m + x) (sym mine);
+      claims = sum_moves (claims_sum n) (claims_sum (set_value (same_txn t) m w)) (claims_sum m) (o.left + one o.waits) (claim_in m t) (w.left + one w.waits) (claim_in n t)
+          (ap claims_sum set) (claims_set t m o w (sym was)) (λ i. mine_before i + one (waits_before i)) (λ i. mine i + one (waits_mine i));
     }
 
 -- what every transaction has stays where the changed record keeps what it has
@@ -175,7 +176,7 @@ none_released m t n none u k =
     cases (same_txn t u && same_name n k) refl
 
 pub unchanged : (m : Owners) (t : TxnNo) (g : Grants) → ((u : TxnNo) (k : LockName) → grants_in m u k ≡ g u k) → Changes m m t g
-unchanged m t g grants = record { grants_are = grants; others_left = λ u h. refl; others_wait = λ u h. refl; others_victims = λ u h. refl; total = refl }
+unchanged m t g grants = record { grants_are = grants; others_left = λ u h. refl; others_wait = λ u h. refl; others_victims = λ u h. refl; total = refl; claims = refl }
 
 -- the sum without one record
 pub sum_remove : (t : TxnNo) (os : Owners) → left_sum (remove_entry (same_txn t) os) + left_in os t ≡ left_sum os
@@ -188,6 +189,27 @@ sum_remove t (e ∷ es) =
       | false ↦ (let g : (e.1.left + left_sum (remove_entry (same_txn t) es)) + left_in es t ≡ e.1.left + left_sum es = omega (arith, rest) in g)
     ]) in
     cases (same_txn t e.0) refl
+
+pub claims_remove : (t : TxnNo) (os : Owners) → claims_sum (remove_entry (same_txn t) os) + claim_in os t ≡ claims_sum os
+claims_remove t [] = refl
+claims_remove t (e ∷ es) =
+    let rest = claims_remove t es in
+    let cases = λ (b : Bool) (q : same_txn t e.0 ≡ b).
+    (elim b as (λ x. claims_sum (cond x es (e ∷ remove_entry (same_txn t) es)) + (left_of (cond x (Some e.1) (lookup (same_txn t) es)) + one (waits_of (cond x (Some e.1) (lookup (same_txn t) es)))) ≡ (e.1.left + one e.1.waits) + claims_sum es) [
+      | true ↦ (let g : claims_sum es + (e.1.left + one e.1.waits) ≡ (e.1.left + one e.1.waits) + claims_sum es = omega arith in g)
+      | false ↦ (let g : ((e.1.left + one e.1.waits) + claims_sum (remove_entry (same_txn t) es)) + claim_in es t ≡ (e.1.left + one e.1.waits) + claims_sum es = omega (arith, rest) in g)
+    ]) in
+    cases (same_txn t e.0) refl
+
+claims_are : (os : Owners) → claims_sum os ≡ sum_by (λ (e : TxnNo × Owner). e.1.left + one e.1.waits) os
+claims_are os = is_sum_by claims_sum (λ (e : TxnNo × Owner). e.1.left + one e.1.waits) refl (λ x xs. refl) os
+
+pub claims_permutation : (xs ys : Owners) → IsPermutation xs ys → claims_sum xs ≡ claims_sum ys
+claims_permutation xs ys p = claims_are xs ∙ sym (sum_by-IsPermutation (λ (e : TxnNo × Owner). e.1.left + one e.1.waits) xs ys p) ∙ sym (claims_are ys)
+
+-- what one may take is part of the whole
+pub claim_within : (os : Owners) (t : TxnNo) → claim_in os t ≤ claims_sum os
+claim_within os t = let k = claims_remove t os in omega (arith, k)
 
 sum_is : (os : Owners) → left_sum os ≡ sum_by (λ (e : TxnNo × Owner). e.1.left) os
 sum_is os = is_sum_by left_sum (λ (e : TxnNo × Owner). e.1.left) refl (λ x xs. refl) os
@@ -218,10 +240,11 @@ opened m n t o nothing left waits victim none put all =
       waits = fresh waits_of m n t o waits none put;
       victims = fresh victim_of m n t o victim none put;
       total = omega (arith, sum, left);
+      claims = (let all = claims_permutation ((t, o) ∷ m) n all in let none : one o.waits ≡ 0 = ap one waits in omega (arith, all, left, none));
     }
 
 pub itself : (m : Owners) → IsSame m m
-itself m = record { grants = λ u k. refl; lefts = λ u. refl; waits = λ u. refl; victims = λ u. refl; total = refl }
+itself m = record { grants = λ u k. refl; lefts = λ u. refl; waits = λ u. refl; victims = λ u. refl; total = refl; claims = refl }
 
 pub nobody : (o : Option Owner) → is_some o ≡ false → o ≡ None
 nobody None h = refl
@@ -237,12 +260,3 @@ same_modes m n t o w put was same u k =
     ∙ ap (λ v. cond (same_txn t u) v (grants_in m u k)) (same k)
     ∙ read_owner (λ z. modes_of z k) m t u (Some o) (λ v. v) (grants_in m u k) (sym was)
     ∙ both_same (same_txn t u) (grants_in m u k)
-
--- where nobody's record hinders, nobody does
-pub none_hinders : (n : LockName) (m : Mode) (os : Owners) → list_any (is_hindering n m) os ≡ false → (h : TxnNo) → hinders (grants_in os h n) m ≡ false
-none_hinders n m [] none h = hinders_none m
-none_hinders n m (e ∷ es) none h =
-    let parts = or_none (is_hindering n m e) (list_any (is_hindering n m) es) none in
-    let cases = λ (b : Bool) (q : same_txn h e.0 ≡ b).
-    (elim b as (λ w. hinders (modes_of (cond w (Some e.1) (lookup (same_txn h) es)) n) m ≡ false) [ true ↦ parts.0 | false ↦ none_hinders n m es parts.1 h ]) in
-    cases (same_txn h e.0) refl

@@ -8,12 +8,15 @@ use Rattle.std.proofs.lemmas.List.Folds.{list_any-append}
 use Rattle.std.proofs.lemmas.Bool.{both_ways, or_left, or_right}
 use Rattle.dby_types.specs.declared.number.TxnNo.{TxnNo}
 use Rattle.lock_modes.specs.declared.entry.Request.{Request}
+use Rattle.lock_modes.specs.declared.name.LockName.{LockName}
 use Rattle.lock_modes.specs.Names.{same_txn}
 use Rattle.lock_modes.specs.Lock.{Grants, granted}
 use Rattle.lock_modes.specs.Modes.{hinders}
 use Rattle.lock_modes.specs.Waits.{blocks, asks_before, opposes, IsFree, IsBlocked}
 use Rattle.lock_modes.specs.Serving.{Serves, granted_all}
 use Rattle.lock_modes.proofs.NamesLemmas.{txn_eq, txn_refl, txn_equiv}
+use Rattle.lock_manager.specs.Freed.{StillBlocked}
+use Rattle.lock_manager.proofs.FreedLemmas.{still_granted}
 use Rattle.lock_manager.specs.Owners.{Owners, grants_in, left_in, victim_in, waits_in, left_sum, Changes}
 use Rattle.lock_manager.specs.Serve.{is_among, Waiters, Wakes, Served, Serving}
 
@@ -68,8 +71,8 @@ no_wakes os = record { grants = λ u n. refl; lefts = λ u. refl; victims = λ u
     and_yes true = refl
     and_yes false = refl
 
-pub serving_starts : (os : Owners) (before line given : List Request) → Waiters os line → Serving os os before line line 0 given given
-serving_starts os before line given waiters = record {
+pub serving_starts : (p : LockName → Bool) (os : Owners) (before line given : List Request) → Waiters os line → Serving p os os before line line 0 given given
+serving_starts p os before line given waiters = record {
   left = [];
   rest = line;
   woken = [];
@@ -79,6 +82,7 @@ serving_starts os before line given waiters = record {
   order = λ w l s. subst (λ (b : List Request). Serves (grants_in os) b line w l) (append-nil before) s;
   wakes = no_wakes os;
   waiters = waiters;
+  still = λ after k. subst (λ (b : List Request). StillBlocked p (grants_in os) b (line ++ after)) (sym (append-nil before)) k;
 }
 
 pub last_of : (g : Grants) (a b : List Request) (r : Request) (o : Option TxnNo)
@@ -138,18 +142,18 @@ everywhere f g t mine others u =
     (elim b as (λ w. same_txn t u ≡ w → f u ≡ g u) [ true ↦ λ s. let q = txn_eq t u s in ap f (sym q) ∙ mine ∙ ap g q | false ↦ λ s. others u s ]) e in
     cases (same_txn t u) refl
 
-pub serving_waits : (old new : Owners) (before line line' given given' : List Request) (i : ℕ) (r : Request)
-    → Serving old new before line line' i given given' → i < length line' → r ≡ get_or line' i r → waits_in new r.txn ≡ true
-serving_waits old new before line line' given given' i r s within read =
+pub serving_waits : (t : LockName → Bool) (old new : Owners) (before line line' given given' : List Request) (i : ℕ) (r : Request)
+    → Serving t old new before line line' i given given' → i < length line' → r ≡ get_or line' i r → waits_in new r.txn ≡ true
+serving_waits t old new before line line' given given' i r s within read =
     let p = split_rest s.left s.rest line' i r s.place s.line_is within read in
     waiters_at new s.left p.0 r (subst (λ (x : List Request). Waiters new (s.left ++ x)) p.1 s.waiters)
 
 -- a request that stays
-pub serving_stays : (old new : Owners) (before line line' given given' : List Request) (i : ℕ) (r : Request)
-    → Serving old new before line line' i given given' → i < length line' → r ≡ get_or line' i r
+pub serving_stays : (t : LockName → Bool) (old new : Owners) (before line line' given given' : List Request) (i : ℕ) (r : Request)
+    → Serving t old new before line line' i given given' → i < length line' → r ≡ get_or line' i r
     → IsBlocked (grants_in new) (before ++ take i line') r
-    → Serving old new before line line' (i + 1) given given'
-serving_stays old new before line line' given given' i r s within read blocked =
+    → Serving t old new before line line' (i + 1) given given'
+serving_stays t old new before line line' given given' i r s within read blocked =
     let p = split_rest s.left s.rest line' i r s.place s.line_is within read in
     let front : take i line' ≡ s.left = ap (λ l. take i l) s.line_is ∙ ap (λ k. take k (s.left ++ s.rest)) s.place ∙ take-append_seam s.left s.rest in
     let here : IsBlocked (grants_in new) (before ++ s.left) r = subst (λ (x : List Request). IsBlocked (grants_in new) (before ++ x) r) front blocked in
@@ -169,6 +173,9 @@ serving_stays old new before line line' given given' i r s within read blocked =
           subst (λ (x : List Request). Serves (grants_in old) before line (s.woken ++ w) x) (sym (append_assoc s.left one l)) whole;
       wakes = s.wakes;
       waiters = subst (λ (x : List Request). Waiters new x) lists s.waiters;
+      still = λ after k.
+          let here = subst (λ (x : List Request). StillBlocked t (grants_in new) (before ++ s.left) (x ++ after)) p.1 (s.still after k) in
+          subst (λ (b : List Request). StillBlocked t (grants_in new) b (p.0 ++ after)) (append_assoc before s.left one) here.1;
     }
 
 -- what stands behind a place
@@ -177,13 +184,13 @@ behind [] b x = refl
 behind (y ∷ a) b x = behind a b x
 
 -- a request that is granted
-pub serving_wakes : (old new new' : Owners) (before line line' given given' : List Request) (i : ℕ) (r : Request)
-    → Serving old new before line line' i given given' → i < length line' → r ≡ get_or line' i r
+pub serving_wakes : (t : LockName → Bool) (old new new' : Owners) (before line line' given given' : List Request) (i : ℕ) (r : Request)
+    → Serving t old new before line line' i given given' → i < length line' → r ≡ get_or line' i r
     → IsFree (grants_in new) (before ++ take i line') r
     → Changes new new' r.txn (granted (grants_in new) r)
-    → left_in new' r.txn ≡ left_in new r.txn → waits_in new' r.txn ≡ false → victim_in new' r.txn ≡ victim_in new r.txn
-    → Serving old new' before line (remove line' i) i given (given' ++ r ∷ [])
-serving_wakes old new new' before line line' given given' i r s within read free changed left waits victim =
+    → t r.name ≡ true → left_in new' r.txn ≡ left_in new r.txn → waits_in new' r.txn ≡ false → victim_in new' r.txn ≡ victim_in new r.txn
+    → Serving t old new' before line (remove line' i) i given (given' ++ r ∷ [])
+serving_wakes t old new new' before line line' given given' i r s within read free changed freed left waits victim =
     let p = split_rest s.left s.rest line' i r s.place s.line_is within read in
     let front : take i line' ≡ s.left = ap (λ l. take i l) s.line_is ∙ ap (λ k. take k (s.left ++ s.rest)) s.place ∙ take-append_seam s.left s.rest in
     let here : IsFree (grants_in new) (before ++ s.left) r = subst (λ (x : List Request). IsFree (grants_in new) (before ++ x) r) front free in
@@ -211,9 +218,12 @@ serving_wakes old new new' before line line' given given' i r s within read free
         waits = everywhere (waits_in new') (λ u. waits_in old u && not (is_among u (s.woken ++ one))) r.txn
             (waits ∙ sym (ap (λ b. waits_in old r.txn && not b) (among_snoc r.txn s.woken r ∙ or_right (is_among r.txn s.woken) _ (txn_refl r.txn)) ∙ and_no (waits_in old r.txn)))
             (λ u other. changed.others_wait u other ∙ s.wakes.waits u ∙ ap (λ b. waits_in old u && not b) (sym (among_snoc u s.woken r ∙ ap (λ b. is_among u s.woken || b) other ∙ or_no (is_among u s.woken))));
-        total = (let t = changed.total in let a : left_sum new' ≡ left_sum new = omega (arith, t, left) in a) ∙ s.wakes.total;
+        total = (let sum = changed.total in let a : left_sum new' ≡ left_sum new = omega (arith, sum, left) in a) ∙ s.wakes.total;
       };
       waiters = waiters_drop new new' r changed.others_wait s.left p.0 (subst (λ (x : List Request). Waiters new (s.left ++ x)) p.1 s.waiters);
+      still = λ after k.
+          let here = subst (λ (x : List Request). StillBlocked t (grants_in new) (before ++ s.left) (x ++ after)) p.1 (s.still after k) in
+          still_granted t (grants_in new) (grants_in new') (before ++ s.left) (p.0 ++ after) r freed changed.grants_are here.1;
     }
   where
     gone : (a b : List Request) (x : Request) → remove (a ++ x ∷ b) (length a) ≡ a ++ b
@@ -228,9 +238,9 @@ serving_wakes old new new' before line line' given given' i r s within read free
     or_no false = refl
 
 -- the line's end
-pub serving_ends : (old new : Owners) (before line line' given given' : List Request) (i : ℕ)
-    → Serving old new before line line' i given given' → length line' ≤ i → Served old new before line line' given given'
-serving_ends old new before line line' given given' i s end =
+pub serving_ends : (t : LockName → Bool) (old new : Owners) (before line line' given given' : List Request) (i : ℕ)
+    → Serving t old new before line line' i given given' → length line' ≤ i → Served old new before line line' given given'
+serving_ends t old new before line line' given given' i s end =
     let none : s.rest ≡ [] = empty s.rest (omega (arith, s.place, ap length s.line_is, length-append s.left s.rest)) in
     let all : line' ≡ s.left = s.line_is ∙ ap (λ x. s.left ++ x) none ∙ append-nil s.left in
     let last : Serves (grants_in new) (before ++ s.left) [] [] [] = (refl, refl) in
@@ -248,6 +258,30 @@ serving_ends old new before line line' given given' i s end =
     empty : (xs : List Request) → length xs ≡ 0 → xs ≡ []
     empty [] h = refl
     empty (x ∷ xs) h = absurd (omega (arith, h))
+
+-- what still waits behind the line
+pub still_ends : (t : LockName → Bool) (old new : Owners) (before line line' given given' : List Request) (i : ℕ)
+    → Serving t old new before line line' i given given' → length line' ≤ i → (after : List Request) → StillBlocked t (grants_in old) before (line ++ after) → StillBlocked t (grants_in new) (before ++ line') after
+still_ends t old new before line line' given given' i s end after k =
+    let none : s.rest ≡ [] = empty s.rest (omega (arith, s.place, ap length s.line_is, length-append s.left s.rest)) in
+    let all : line' ≡ s.left = s.line_is ∙ ap (λ x. s.left ++ x) none ∙ append-nil s.left in
+    subst (λ (x : List Request). StillBlocked t (grants_in new) (before ++ x) after) (sym all)
+    (subst (λ (x : List Request). StillBlocked t (grants_in new) (before ++ s.left) (x ++ after)) none (s.still after k))
+  where
+    empty : (xs : List Request) → length xs ≡ 0 → xs ≡ []
+    empty [] h = refl
+    empty (x ∷ xs) h = absurd (omega (arith, h))
+
+-- the next request of the line, if it is for a name that doesn't pass, has somebody in its way
+pub serving_blocked : (t : LockName → Bool) (old new : Owners) (before line line' given given' : List Request) (i : ℕ) (r : Request)
+    → Serving t old new before line line' i given given' → i < length line' → r ≡ get_or line' i r → StillBlocked t (grants_in old) before line
+    → t r.name ≡ false → IsBlocked (grants_in new) (before ++ take i line') r
+serving_blocked t old new before line line' given given' i r s within read still other =
+    let p = split_rest s.left s.rest line' i r s.place s.line_is within read in
+    let front : take i line' ≡ s.left = ap (λ l. take i l) s.line_is ∙ ap (λ k. take k (s.left ++ s.rest)) s.place ∙ take-append_seam s.left s.rest in
+    let whole : StillBlocked t (grants_in old) before (line ++ []) = subst (λ (x : List Request). StillBlocked t (grants_in old) before x) (sym (append-nil line)) still in
+    let here = subst (λ (x : List Request). StillBlocked t (grants_in new) (before ++ s.left) (x ++ [])) p.1 (s.still [] whole) in
+    subst (λ (x : List Request). IsBlocked (grants_in new) (before ++ x) r) (sym front) (here.0 other)
 
 -- what the search for somebody in the way says once it is known whether it found one
 pub blocked_by : (g : Grants) (b : List Request) (r : Request) (o : Option TxnNo) → MatchOption o (IsFree g b r) (λ h. blocks g b r h ≡ true) → is_some o ≡ true → IsBlocked g b r

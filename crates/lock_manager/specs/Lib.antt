@@ -1,8 +1,10 @@
 pub mod ByName
+pub mod Places
 pub mod Tallies
 pub mod Holdings
 pub mod Owners
 pub mod OwnerSteps
+pub mod Freed
 pub mod Serve
 pub mod Blocking
 pub mod Table

@@ -3,14 +3,13 @@ use Rattle.std.specs.Prelude.{◌≡◌, ◌+◌, ℕ, Bool, false, List, [], �
 use Rattle.std.specs.Map.{lookup}
 use Rattle.dby_types.specs.declared.number.TxnNo.{TxnNo}
 use Rattle.lock_modes.specs.declared.modes.Modes.{Modes}
-use Rattle.lock_modes.specs.declared.mode.Mode.{Mode}
 use Rattle.lock_modes.specs.declared.name.LockName.{LockName}
-use Rattle.lock_modes.specs.declared.entry.Request.{Request}
 use Rattle.lock_modes.specs.Lock.{Grants}
-use Rattle.lock_modes.specs.Modes.{no_modes, hinders}
+use Rattle.lock_modes.specs.Modes.{no_modes}
 use Rattle.lock_modes.specs.Names.{same_txn}
 use Rattle.lock_manager.specs.declared.owner.Owner.{Owner}
 use Rattle.lock_manager.specs.Holdings.{modes_in}
+use Rattle.lock_manager.specs.Tallies.{one}
 
 -- the records of the open transactions, each under its number
 abbrev pub Owners : Type 0
@@ -51,14 +50,19 @@ waits_of (Some o) = o.waits
 abbrev pub waits_in : Owners → TxnNo → Bool
 waits_in os t = waits_of (owner_of os t)
 
--- another transaction has a mode that isn't compatible with the wanted one
-abbrev pub is_in_way : Request → (TxnNo × Owner) → Bool
-is_in_way r e = not (same_txn e.0 r.txn) && hinders (modes_in e.1.holdings r.name) r.mode
-
 -- for how many names more all transactions may ask
 abbrev pub left_sum : Owners → ℕ
 left_sum [] = 0
 left_sum (e ∷ es) = e.1.left + left_sum es
+
+-- how many names more a transaction may take, now or once it has waited
+abbrev pub claim_in : Owners → TxnNo → ℕ
+claim_in os t = left_in os t + one (waits_in os t)
+
+-- how many names more all transactions may take
+abbrev pub claims_sum : Owners → ℕ
+claims_sum [] = 0
+claims_sum (e ∷ es) = (e.1.left + one e.1.waits) + claims_sum es
 
 -- one transaction's record was changed, and with it what it has
 pub record Changes (old new : Owners) (t : TxnNo) (grants : Grants) : Type 0 where
@@ -67,6 +71,7 @@ pub record Changes (old new : Owners) (t : TxnNo) (grants : Grants) : Type 0 whe
   pub others_wait : (u : TxnNo) → same_txn t u ≡ false → waits_in new u ≡ waits_in old u
   pub others_victims : (u : TxnNo) → same_txn t u ≡ false → victim_in new u ≡ victim_in old u
   pub total : left_sum new + left_in old t ≡ left_sum old + left_in new t
+  pub claims : claims_sum new + claim_in old t ≡ claims_sum old + claim_in new t
 
 -- one transaction's record is gone, and the others' stay
 pub record IsGone (old new : Owners) (t : TxnNo) : Type 0 where
@@ -81,7 +86,4 @@ pub record IsSame (old new : Owners) : Type 0 where
   pub waits : (u : TxnNo) → waits_in new u ≡ waits_in old u
   pub victims : (u : TxnNo) → victim_in new u ≡ victim_in old u
   pub total : left_sum new ≡ left_sum old
-
--- a transaction has a mode on a name that isn't compatible with a wanted one
-abbrev pub is_hindering : LockName → Mode → (TxnNo × Owner) → Bool
-is_hindering n m e = hinders (modes_in e.1.holdings n) m
+  pub claims : claims_sum new ≡ claims_sum old

@@ -9,6 +9,7 @@ use Rattle.lock_modes.specs.Modes.{compatible}
 use Rattle.lock_modes.specs.Names.{same_txn, same_name}
 use Rattle.lock_modes.specs.Lock.{without_request}
 use Rattle.lock_modes.specs.Serving.{Serves, granted_all}
+use Rattle.lock_manager.specs.Freed.{StillBlocked}
 use Rattle.lock_manager.specs.Owners.{Owners, grants_in, left_in, victim_in, waits_in, left_sum}
 
 -- whether a transaction has a request among these
@@ -36,8 +37,8 @@ pub record Served (old new : Owners) (before line line' given given' : List Requ
   pub wakes : Wakes old new woken
   pub waiters : Waiters new line'
 
--- how far the line was served
-pub record Serving (old new : Owners) (before line line' : List Request) (i : ℕ) (given given' : List Request) : Type 0 where
+-- how far the line was served, where requests for names that don't pass the test still wait
+pub record Serving (p : LockName → Bool) (old new : Owners) (before line line' : List Request) (i : ℕ) (given given' : List Request) : Type 0 where
   pub left : List Request
   pub rest : List Request
   pub woken : List Request
@@ -47,6 +48,7 @@ pub record Serving (old new : Owners) (before line line' : List Request) (i : �
   pub order : (w l : List Request) → Serves (grants_in new) (before ++ left) rest w l → Serves (grants_in old) before line (woken ++ w) (left ++ l)
   pub wakes : Wakes old new woken
   pub waiters : Waiters new (left ++ rest)
+  pub still : (after : List Request) → StillBlocked p (grants_in old) before (line ++ after) → StillBlocked p (grants_in new) (before ++ left) (rest ++ after)
 
 -- a list of requests without those that were granted
 abbrev pub without_all : List Request → List Request → List Request

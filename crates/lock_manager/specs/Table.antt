@@ -21,7 +21,7 @@ use Rattle.lock_manager.specs.Owners.{grants_in, left_in, victim_in}
 
 -- the grants, the queue and the victims: the state that lock events change
 abbrev pub lock : LockTable → Lock
-lock v = record { grants = grants_in v.owners.entries; conversions = v.conversions.items; requests = v.requests.items; victims = victim_in v.owners.entries }
+lock v = record { grants = grants_in v.ledger.owners.entries; conversions = v.conversions.items; requests = v.requests.items; victims = victim_in v.ledger.owners.entries }
 
 -- the queued requests that were granted and not given yet
 abbrev pub woken_of : LockTable → List Request
@@ -29,7 +29,7 @@ woken_of v = v.woken.items
 
 -- how many names more a transaction may ask for
 abbrev pub spare_of : LockTable → TxnNo → ℕ
-spare_of v t = left_in v.owners.entries t
+spare_of v t = left_in v.ledger.owners.entries t
 
 -- a request needs no memory
 abbrev pub HasSpare : LockTable → TxnNo → Bool → Type 0

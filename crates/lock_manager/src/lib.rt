@@ -1,15 +1,21 @@
 //! Grants and queues of locks.
 #![tactic(auto)]
 
+pub mod better;
 pub mod blocking;
+pub mod freed;
+pub mod hindering;
 pub mod holders;
 pub mod holdings;
+pub mod ledger;
 pub mod names;
 pub mod owner;
 pub mod owners;
+pub mod places;
 pub mod queue;
 pub mod table;
 pub mod tallies;
 #[cfg(test)]
 mod tests;
 pub mod tried;
+pub mod unlisting;

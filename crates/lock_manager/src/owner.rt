@@ -6,6 +6,7 @@ ghost use Rattle.lock_modes.specs.Modes.{with_mode, no_modes, is_held};
 ghost use Rattle.lock_modes.specs.Names.{same_name, is_row_name};
 ghost use Rattle.lock_modes.specs.declared.name.LockName.{LockName};
 ghost use Rattle.lock_manager.specs.Holdings.{modes_in};
+ghost use Rattle.lock_manager.specs.Tallies.{one};
 
 use crate::holdings::Holdings;
 use lock_modes::mode::Mode;
@@ -97,6 +98,14 @@ impl Owner {
         ensures victim { self.new.victim ≡ self.old.victim }
     {
         self.holdings.remove_rows(table);
+    }
+
+    /// How many names more it may take, now or once it has waited.
+    pub fn claim(&self) -> usize
+        ensures exact { result ≡ self.now.left + one self.now.waits }
+    {
+        let left = self.left as usize;
+        if self.waits { left + 1 } else { left }
     }
 
     /// Notes it as a victim.

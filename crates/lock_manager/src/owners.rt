@@ -7,7 +7,7 @@ ghost use Rattle.lock_modes.specs.Waits.{IsNumber};
 ghost use Rattle.lock_modes.specs.Lock.{granted, released, released_all};
 ghost use Rattle.lock_modes.specs.Escalation.{released_rows};
 ghost use Rattle.lock_modes.specs.Names.{same_name, same_txn, is_row_name};
-ghost use Rattle.lock_manager.specs.Owners.{owner_of, grants_in, left_in, victim_in, waits_in, left_sum, Changes, IsGone, IsSame};
+ghost use Rattle.lock_manager.specs.Owners.{owner_of, grants_in, left_in, victim_in, waits_in, left_sum, claim_in, claims_sum, Changes, IsGone, IsSame};
 ghost use Rattle.lock_modes.specs.declared.name.LockName.{LockName};
 
 use crate::owner::Owner;
@@ -51,16 +51,14 @@ pub fn left(owners: &Owners, txn: TxnNo) -> u32
     }
 }
 
-/// A transaction, other than the one that asks, whose modes on the name aren't compatible with the wanted one.
-pub fn holder_in_way(owners: &Owners, r: Request) -> Option<TxnNo>
-    ensures found { MatchOption result ((h : TxnNo) → (not (same_txn h r.txn) && hinders (grants_in owners.now.entries h r.name) r.mode) ≡ false) (λ h. (not (same_txn h r.txn) && hinders (grants_in owners.now.entries h r.name) r.mode) ≡ true) }
+/// How many names more a transaction may take, now or once it has waited.
+pub fn claim(owners: &Owners, txn: TxnNo) -> usize
+    ensures exact { result ≡ claim_in owners.now.entries txn }
 {
-    for (txn, owner) in owners {
-        if !is_same_txn(*txn, r.txn) && owner.holdings.modes(r.name).hinders(r.mode) {
-            return Some(*txn);
-        }
+    match owners.get(&txn) {
+        Some(owner) => owner.claim(),
+        None => 0,
     }
-    None
 }
 
 /// Adds a mode to what a transaction has, for which it spends one of the names that are left to it if the name is new to it.
@@ -141,12 +139,14 @@ pub fn choose(owners: &mut Owners, txn: TxnNo)
 }
 
 /// Takes a transaction's record away.
-pub fn remove(owners: &mut Owners, txn: TxnNo)
+pub fn remove(owners: &mut Owners, txn: TxnNo) -> Option<Owner>
+    ensures owner { result ≡ owner_of owners.old.entries txn }
     ensures grants { (u : TxnNo) (n : LockName) → grants_in owners.new.entries u n ≡ released_all (grants_in owners.old.entries) txn u n }
     ensures gone { IsGone owners.old.entries owners.new.entries txn }
     ensures total { left_sum owners.new.entries + left_in owners.old.entries txn ≡ left_sum owners.old.entries }
+    ensures claims { claims_sum owners.new.entries + claim_in owners.old.entries txn ≡ claims_sum owners.old.entries }
 {
-    let _ = owners.remove(&txn);
+    owners.remove(&txn)
 }
 
 /// Gives a transaction a record, if it has none.
@@ -173,18 +173,6 @@ pub fn reserve(owners: &mut Owners, txn: TxnNo, n: u32) -> Result<(), AllocError
         Some(owner) => owner.reserve(n),
         None => Ok(()),
     }
-}
-
-/// A transaction whose modes on the name aren't compatible with this one.
-pub fn holder_hinders(owners: &Owners, name: LockName, mode: Mode) -> Option<TxnNo>
-    ensures found { MatchOption result ((h : TxnNo) → hinders (grants_in owners.now.entries h name) mode ≡ false) (λ h. hinders (grants_in owners.now.entries h name) mode ≡ true) }
-{
-    for (txn, owner) in owners {
-        if owner.holdings.modes(name).hinders(mode) {
-            return Some(*txn);
-        }
-    }
-    None
 }
 
 /// On how many names a transaction has anything.

@@ -1,10 +1,12 @@
 //! Queued requests.
 
-ghost use Rattle.std.specs.Prelude.{◌≡◌, ◌≤◌, ◌<◌, ◌+◌, ℕ, true, false, ◌&&◌, not, OnOk, MatchOption, length, ◌++◌};
+ghost use Rattle.std.specs.Prelude.{◌≡◌, ◌≤◌, ◌<◌, ◌+◌, ℕ, true, false, ◌&&◌, not, OnOk, MatchOption, length, ◌++◌, List, []};
 ghost use Rattle.dby_types.specs.declared.number.TxnNo.{TxnNo};
 ghost use Rattle.lock_modes.specs.Names.{same_txn, same_name};
 ghost use Rattle.lock_modes.specs.Lock.{without};
 ghost use Rattle.lock_modes.specs.Waits.{asks_before, opposes, blocks, IsFree, IsBlocked};
+ghost use Rattle.lock_modes.specs.declared.entry.Request.{Request};
+ghost use Rattle.lock_manager.specs.Freed.{frees, StillBlocked};
 ghost use Rattle.lock_manager.specs.Owners.{grants_in};
 ghost use Rattle.lock_manager.specs.Serve.{Waiters, Served, ServedBoth, is_among, contests};
 ghost use Rattle.std.specs.List.{list_any};
@@ -12,7 +14,8 @@ ghost use Rattle.lock_manager.specs.Room.{FitsAsBefore, Grows, HasRoom};
 ghost use Rattle.std.specs.VecDeque.{deque_len, deque_capacity};
 ghost use Rattle.std.specs.Vec.{vec_len, vec_capacity};
 
-use crate::owners::{Owners, grant_queued, holder_in_way};
+use crate::freed::{Freed, is_freed};
+use crate::ledger::Ledger;
 use dby_types::number::TxnNo;
 use lock_modes::entry::Request;
 use lock_modes::mode::{Mode, compatible};
@@ -40,10 +43,10 @@ pub fn asker_in_way(requests: &[Request], r: Request) -> Option<TxnNo>
 }
 
 /// A transaction in the way of a request: by what it has, or by a request among the first or the second ones.
-pub fn in_way(owners: &Owners, first: &[Request], second: &[Request], r: Request) -> Option<TxnNo>
-    ensures found { MatchOption result (IsFree (grants_in owners.now.entries) (first.now ++ second.now) r) (λ h. blocks (grants_in owners.now.entries) (first.now ++ second.now) r h ≡ true) }
+pub fn in_way(ledger: &Ledger, first: &[Request], second: &[Request], r: Request) -> Option<TxnNo>
+    ensures found { MatchOption result (IsFree (grants_in ledger.now.owners.entries) (first.now ++ second.now) r) (λ h. blocks (grants_in ledger.now.owners.entries) (first.now ++ second.now) r h ≡ true) }
 {
-    if let Some(h) = holder_in_way(owners, r) {
+    if let Some(h) = ledger.in_way(r) {
         return Some(h);
     }
     if let Some(h) = asker_in_way(first, r) {
@@ -52,16 +55,33 @@ pub fn in_way(owners: &Owners, first: &[Request], second: &[Request], r: Request
     asker_in_way(second, r)
 }
 
-/// Grants, in order, each request of a line that nothing is in the way of, and notes those that were granted.
+/// Whether a request stays in its line, where those for names that weren't freed still wait: they needn't be looked at.
+fn stays(ledger: &Ledger, freed: &Freed, first: &[Request], second: &[Request], r: Request) -> bool
+    requires { frees freed.now r.name ≡ false → IsBlocked (grants_in ledger.now.owners.entries) (first.now ++ second.now) r }
+    ensures blocked { result ≡ true → IsBlocked (grants_in ledger.now.owners.entries) (first.now ++ second.now) r }
+    ensures free { result ≡ false → IsFree (grants_in ledger.now.owners.entries) (first.now ++ second.now) r }
+    ensures freed { result ≡ false → frees freed.now r.name ≡ true }
+{
+    if !is_freed(freed, r.name) {
+        return true;
+    }
+    in_way(ledger, first, second, r).is_some()
+}
+
+/// Grants, in order, each request of a line that nothing is in the way of, and notes those that were granted. Only those for
+/// names that were freed are looked at.
 pub fn serve(
-    owners: &mut Owners,
+    ledger: &mut Ledger,
+    freed: &Freed,
     before: &[Request],
     line: &mut Vec<Request>,
     woken: &mut VecDeque<Request>,
 )
-    requires waiters { Waiters owners.old.entries line.old.items }
+    requires waiters { Waiters ledger.old.owners.entries line.old.items }
+    requires still { StillBlocked (frees freed.now) (grants_in ledger.old.owners.entries) before.now line.old.items }
     requires room { deque_len woken.old + vec_len line.old ≤ deque_capacity woken.old }
-    ensures served { Served owners.old.entries owners.new.entries before.now line.old.items line.new.items woken.old.items woken.new.items }
+    ensures served { Served ledger.old.owners.entries ledger.new.owners.entries before.now line.old.items line.new.items woken.old.items woken.new.items }
+    ensures still { (after : List Request) → StillBlocked (frees freed.now) (grants_in ledger.old.owners.entries) before.now (line.old.items ++ after) → StillBlocked (frees freed.now) (grants_in ledger.new.owners.entries) (before.now ++ line.new.items) after }
     ensures room { deque_len woken.new + vec_len line.new ≡ deque_len woken.old + vec_len line.old }
     ensures capacity { deque_capacity woken.new ≡ deque_capacity woken.old }
     ensures held { vec_capacity line.new ≡ vec_capacity line.old }
@@ -70,11 +90,11 @@ pub fn serve(
     let mut i = 0;
     'each: while i < line.len() {
         let r = line[i];
-        if in_way(owners, before, &line[..i], r).is_some() {
+        if stays(ledger, freed, before, &line[..i], r) {
             i += 1;
         } else {
             line.remove(i);
-            grant_queued(owners, r);
+            ledger.grant_queued(r);
             woken.push_back_reserved(r);
         }
     }
@@ -94,20 +114,23 @@ pub fn waits(conversions: &[Request], requests: &[Request], t: TxnNo) -> bool
     has_request(conversions, t) || has_request(requests, t)
 }
 
-/// Grants, in the order of the queue, each request that nothing is in the way of, and notes those that were granted.
+/// Grants, in the order of the queue, each request that nothing is in the way of, and notes those that were granted. Only
+/// those for names that were freed are looked at.
 pub fn serve_both(
-    owners: &mut Owners,
+    ledger: &mut Ledger,
+    freed: &Freed,
     conversions: &mut Vec<Request>,
     requests: &mut Vec<Request>,
     woken: &mut VecDeque<Request>,
 )
-    requires waiters { Waiters owners.old.entries (conversions.old.items ++ requests.old.items) }
+    requires waiters { Waiters ledger.old.owners.entries (conversions.old.items ++ requests.old.items) }
+    requires still { StillBlocked (frees freed.now) (grants_in ledger.old.owners.entries) [] (conversions.old.items ++ requests.old.items) }
     requires room { deque_len woken.old + (vec_len conversions.old + vec_len requests.old) ≤ deque_capacity woken.old }
-    ensures served { ServedBoth owners.old.entries owners.new.entries conversions.old.items requests.old.items conversions.new.items requests.new.items woken.old.items woken.new.items }
+    ensures served { ServedBoth ledger.old.owners.entries ledger.new.owners.entries conversions.old.items requests.old.items conversions.new.items requests.new.items woken.old.items woken.new.items }
     ensures room { FitsAsBefore conversions.old requests.old woken.old conversions.new requests.new woken.new }
 {
-    serve(owners, &[], conversions, woken);
-    serve(owners, conversions, requests, woken);
+    serve(ledger, freed, &[], conversions, woken);
+    serve(ledger, freed, conversions, requests, woken);
 }
 
 /// Takes a transaction's requests away.

@@ -13,8 +13,10 @@ ghost use Rattle.lock_manager.specs.Owners.{left_sum, waits_in, grants_in};
 ghost use Rattle.lock_manager.specs.Serve.{Waiters, is_among};
 
 use crate::blocking::{least_blocker, request_of};
+use crate::freed::{Freed, name_of};
 use crate::holders::{self, Holders};
-use crate::owners::{self, Owners};
+use crate::ledger::Ledger;
+use crate::owners;
 use crate::queue::{drop_requests, in_way, is_contested, make_room, serve_both, waits};
 use crate::tried::Tried;
 use dby_types::number::TxnNo;
@@ -23,24 +25,24 @@ use lock_modes::entry::Request;
 use lock_modes::mode::Mode;
 use lock_modes::name::LockName;
 use std::alloc::{AllocError, Global};
-use std::collections::{HashMap, VecDeque};
+use std::collections::VecDeque;
 
 /// Who has which locks, and who waits.
 #[derive(Drop)]
 pub struct LockTable {
     alloc: Global,
-    owners: Owners,
+    ledger: Ledger,
     /// For how many names more all transactions may ask.
     left: usize,
     conversions: Vec<Request>,
     requests: Vec<Request>,
     woken: VecDeque<Request>,
-    ghost total: { left ≡ left_sum owners.entries },
+    ghost total: { left ≡ left_sum ledger.owners.entries },
     ghost room: { HasRoom left conversions requests woken },
-    ghost waiters: { Waiters owners.entries (conversions.items ++ requests.items) } by { Waiters-prop _ _ },
-    ghost only: { (t : TxnNo) → waits_in owners.entries t ≡ is_among t (conversions.items ++ requests.items) },
-    ghost settled: { AllBlocked (grants_in owners.entries) [] (conversions.items ++ requests.items) } by { AllBlocked-prop _ _ _ },
-    ghost apart: { IsApart (grants_in owners.entries) } by { IsApart-prop _ },
+    ghost waiters: { Waiters ledger.owners.entries (conversions.items ++ requests.items) } by { Waiters-prop _ _ },
+    ghost only: { (t : TxnNo) → waits_in ledger.owners.entries t ≡ is_among t (conversions.items ++ requests.items) },
+    ghost settled: { AllBlocked (grants_in ledger.owners.entries) [] (conversions.items ++ requests.items) } by { AllBlocked-prop _ _ _ },
+    ghost apart: { IsApart (grants_in ledger.owners.entries) } by { IsApart-prop _ },
 }
 
 impl LockTable {
@@ -57,7 +59,7 @@ impl LockTable {
     {
         LockTable {
             alloc,
-            owners: HashMap::new(alloc),
+            ledger: Ledger::new(alloc),
             left: 0,
             conversions: Vec::new(alloc),
             requests: Vec::new(alloc),
@@ -76,7 +78,7 @@ impl LockTable {
     pub fn spare(&self, t: TxnNo) -> u32
         ensures exact { result ≡ spare_of self.now t }
     {
-        owners::left(&self.owners, t)
+        owners::left(&self.ledger.owners, t)
     }
 
     /// How many requests wait.
@@ -93,11 +95,11 @@ impl LockTable {
         let Some(r) = request_of(&self.conversions, &self.requests, t) else {
             return None;
         };
-        let Some(holder) = least_blocker(&self.owners, &self.conversions, &self.requests, r, above)
+        let Some(holder) = least_blocker(&self.ledger, &self.conversions, &self.requests, r, above)
         else {
             return None;
         };
-        let locks = owners::count(&self.owners, t);
+        let locks = owners::count(&self.ledger.owners, t);
         Some(Edge {
             waiter: t,
             holder,
@@ -111,42 +113,42 @@ impl LockTable {
     pub fn count(&self, t: TxnNo) -> u64
         ensures exact { IsNumber (λ n. has_grant (lock self.now).grants t n) result }
     {
-        owners::count(&self.owners, t)
+        owners::count(&self.ledger.owners, t)
     }
 
     /// Every transaction with each mode that it has on a name, each pair once; or want of memory.
     pub fn holders(&self, name: LockName) -> Result<Holders, AllocError>
         ensures ok { IfOk result (λ hs. IsHolders (lock self.now).grants name hs) }
     {
-        holders::holders(&self.owners, self.alloc, name)
+        holders::holders(&self.ledger.owners, self.alloc, name)
     }
 
     /// On how many rows and places before a first entry of a table a transaction has a grant.
     pub fn row_count(&self, t: TxnNo, table: u32) -> u64
         ensures exact { IsNumber (λ n. is_row_name table n && has_grant (lock self.now).grants t n) result }
     {
-        owners::row_count(&self.owners, t, table)
+        owners::row_count(&self.ledger.owners, t, table)
     }
 
     /// Whether a transaction has a mode of one who changes on a row, or a place before a first entry, of a table.
     pub fn writes(&self, t: TxnNo, table: u32) -> bool
         ensures exact { IsTrue result ↔ WritesIn (lock self.now) t table }
     {
-        owners::written_count(&self.owners, t, table) > 0
+        owners::written_count(&self.ledger.owners, t, table) > 0
     }
 
     /// Whether a transaction has a mode that also holds the gap, on any name.
     pub fn ranged(&self, t: TxnNo) -> bool
         ensures exact { IsTrue result ↔ HoldsGap (lock self.now) t }
     {
-        owners::ranged_count(&self.owners, t) > 0
+        owners::ranged_count(&self.ledger.owners, t) > 0
     }
 
     /// Whether a transaction was chosen as a victim.
     pub fn is_victim(&self, t: TxnNo) -> bool
         ensures exact { result ≡ (lock self.now).victims t }
     {
-        owners::is_victim(&self.owners, t)
+        owners::is_victim(&self.ledger.owners, t)
     }
 
     /// A queued request that was granted and not given yet, in the order of the grants.
@@ -171,7 +173,7 @@ impl LockTable {
     pub fn would_grant(&self, name: LockName, mode: Mode) -> bool
         ensures exact { IsTrue result ↔ IsUncontested (lock self.now) name mode }
     {
-        let held = owners::holder_hinders(&self.owners, name, mode).is_some();
+        let held = self.ledger.hinders(name, mode).is_some();
         let asked = is_contested(&self.conversions, name, mode);
         let queued = is_contested(&self.requests, name, mode);
         !held && (!asked && !queued)
@@ -184,21 +186,21 @@ impl LockTable {
         ensures woken { woken_of self.new ≡ woken_of self.old }
         ensures room { (u : TxnNo) → spare_of self.new u ≡ spare_of self.old u }
     {
-        owners::choose(&mut self.owners, t);
+        self.ledger.choose(t);
     }
 
     /// Who is in the way of a request: nobody where what the transaction has covers it.
     fn hindrance(&self, r: Request) -> Option<TxnNo>
         ensures cause { IsHindrance (lock self.now) r result }
     {
-        let modes = owners::modes_of(&self.owners, r.txn, r.name);
+        let modes = owners::modes_of(&self.ledger.owners, r.txn, r.name);
         if modes.covers(r.mode) {
             return None;
         }
         if modes.is_held() {
-            in_way(&self.owners, &self.conversions, &[], r)
+            in_way(&self.ledger, &self.conversions, &[], r)
         } else {
-            in_way(&self.owners, &self.conversions, &self.requests, r)
+            in_way(&self.ledger, &self.conversions, &self.requests, r)
         }
     }
 
@@ -211,7 +213,7 @@ impl LockTable {
         ensures same { lock self.new ≡ lock self.old }
         ensures woken { woken_of self.new ≡ woken_of self.old }
     {
-        let had = owners::left(&self.owners, t);
+        let had = owners::left(&self.ledger.owners, t);
         if n <= had {
             return Ok(());
         }
@@ -234,8 +236,8 @@ impl LockTable {
             &mut self.woken,
             left,
         )?;
-        owners::open(&mut self.owners, self.alloc, t)?;
-        match owners::reserve(&mut self.owners, t, n) {
+        self.ledger.open(self.alloc, t)?;
+        match self.ledger.reserve(t, n) {
             Ok(()) => {
                 self.left = left;
                 Ok(())
@@ -275,7 +277,7 @@ impl LockTable {
         ensures woken { woken_of self.new ≡ woken_of self.old }
     {
         let r = Request { txn: t, name, mode };
-        if owners::modes_of(&self.owners, t, name).is_held() {
+        if owners::modes_of(&self.ledger.owners, t, name).is_held() {
             self.queue_conversion(r);
         } else {
             self.queue_request(r);
@@ -290,7 +292,7 @@ impl LockTable {
         ensures room { (u : TxnNo) → spare_of self.new u ≡ (if same_txn r.txn u then spare_of self.old u - 1 else spare_of self.old u) }
         ensures woken { woken_of self.new ≡ woken_of self.old }
     {
-        owners::wait(&mut self.owners, r.txn);
+        self.ledger.wait(r.txn);
         self.left -= 1;
         self.conversions.push_reserved(r);
     }
@@ -303,7 +305,7 @@ impl LockTable {
         ensures room { (u : TxnNo) → spare_of self.new u ≡ (if same_txn r.txn u then spare_of self.old u - 1 else spare_of self.old u) }
         ensures woken { woken_of self.new ≡ woken_of self.old }
     {
-        owners::wait(&mut self.owners, r.txn);
+        self.ledger.wait(r.txn);
         self.left -= 1;
         self.requests.push_reserved(r);
     }
@@ -315,9 +317,10 @@ impl LockTable {
         ensures settled { IsSettled (lock self.new) }
         ensures room { (u : TxnNo) → spare_of self.new u ≡ spare_of self.old u }
     {
-        owners::release(&mut self.owners, t, name);
+        self.ledger.release(t, name);
         serve_both(
-            &mut self.owners,
+            &mut self.ledger,
+            &Freed::Name(name),
             &mut self.conversions,
             &mut self.requests,
             &mut self.woken,
@@ -355,9 +358,10 @@ impl LockTable {
         ensures ok { GivesRows self.old self.new t table }
         ensures room { (u : TxnNo) → spare_of self.new u ≡ spare_of self.old u }
     {
-        owners::release_rows(&mut self.owners, t, table);
+        self.ledger.release_rows(t, table);
         serve_both(
-            &mut self.owners,
+            &mut self.ledger,
+            &Freed::Rows(table),
             &mut self.conversions,
             &mut self.requests,
             &mut self.woken,
@@ -371,13 +375,15 @@ impl LockTable {
         ensures settled { IsSettled (lock self.new) }
         ensures room { (u : TxnNo) → spare_of self.new u ≡ (if same_txn t u then 0 else spare_of self.old u) }
     {
-        let left = owners::left(&self.owners, t);
-        owners::remove(&mut self.owners, t);
+        let left = owners::left(&self.ledger.owners, t);
+        let asked = name_of(request_of(&self.conversions, &self.requests, t));
+        let had = self.ledger.remove(t);
         self.left -= left as usize;
         drop_requests(&mut self.conversions, t);
         drop_requests(&mut self.requests, t);
         serve_both(
-            &mut self.owners,
+            &mut self.ledger,
+            &Freed::All { had, asked },
             &mut self.conversions,
             &mut self.requests,
             &mut self.woken,
@@ -393,8 +399,8 @@ impl LockTable {
         ensures room { IsSpent self.old self.new r.txn (has_grant (lock self.old).grants r.txn r.name) }
         ensures woken { woken_of self.new ≡ woken_of self.old }
     {
-        let held = owners::modes_of(&self.owners, r.txn, r.name).is_held();
-        owners::grant(&mut self.owners, r);
+        let held = owners::modes_of(&self.ledger.owners, r.txn, r.name).is_held();
+        self.ledger.grant(r);
         self.left = less_one(self.left, held);
     }
 }

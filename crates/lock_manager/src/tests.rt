@@ -65,6 +65,17 @@ fn first_wrong(l: &mut LockTable, steps: &[Step]) -> Option<usize> {
     None
 }
 
+/// Whether exactly these have something on a name, in any order.
+fn are_holders(l: &LockTable, name: LockName, want: &[(TxnNo, Mode)]) -> Result<bool, AllocError> {
+    let holders = l.holders(name)?;
+    for pair in want {
+        if !holders.as_slice().contains(pair) {
+            return Ok(false);
+        }
+    }
+    Ok(holders.len() == want.len())
+}
+
 /// A table in which three transactions may ask for eight names each.
 fn table(alloc: Global) -> Result<LockTable, AllocError> {
     let mut l = LockTable::new(alloc);
@@ -116,7 +127,10 @@ fn two_writers(rt: HostRuntime) -> Result<(), AllocError> {
     ];
     assert_eq!(rt; first_wrong(&mut l, &waits), None);
     assert_eq!(rt; l.waiters(), 2);
+    assert!(rt; are_holders(&l, ROW_1, &[(ONE, Mode::X2)])?);
+    assert!(rt; are_holders(&l, ROW_2, &[(TWO, Mode::X2)])?);
     l.release_all(TWO);
+    assert!(rt; are_holders(&l, ROW_2, &[(ONE, Mode::U2)])?);
     assert_eq!(rt; l.woken(), Some((ONE, ROW_2, Mode::U2)));
     assert_eq!(rt; l.woken(), None);
     assert_eq!(rt; [l.count(ONE), l.count(TWO)], [5, 0]);
@@ -144,11 +158,36 @@ fn two_readers(rt: HostRuntime) -> Result<(), AllocError> {
         (TWO, ROW_1, Mode::U3, Tried::Conflict(ONE)),
     ];
     assert_eq!(rt; first_wrong(&mut l, &steps), None);
-    let holders = l.holders(ROW_1)?;
-    assert_eq!(rt; holders.len(), 3);
-    for pair in [(ONE, Mode::S3), (ONE, Mode::U3), (TWO, Mode::S3)] {
-        assert!(rt; holders.as_slice().contains(&pair), "{pair:?}");
+    let have = [(ONE, Mode::S3), (ONE, Mode::U3), (TWO, Mode::S3)];
+    assert!(rt; are_holders(&l, ROW_1, &have)?);
+    Ok(())
+}
+
+/// Two transactions read a row and keep it, and then both want to change it.
+#[test]
+fn two_keepers(rt: HostRuntime) -> Result<(), AllocError> {
+    let mut l = table(rt.alloc())?;
+    for t in [ONE, TWO] {
+        let steps = [
+            (t, DICTIONARY, Mode::TIs, Tried::Granted),
+            (t, TABLE, Mode::TIs, Tried::Granted),
+            (t, ROW_1, Mode::S2, Tried::Granted),
+            (t, TABLE, Mode::TIx, Tried::Granted),
+        ];
+        assert_eq!(rt; first_wrong(&mut l, &steps), None);
+        assert_eq!(rt; l.count(t), 3);
     }
+    let steps = [
+        (ONE, ROW_1, Mode::U2, Tried::Granted),
+        (ONE, ROW_1, Mode::X2, Tried::Conflict(TWO)),
+        (TWO, ROW_1, Mode::U2, Tried::Conflict(ONE)),
+    ];
+    assert_eq!(rt; first_wrong(&mut l, &steps), None);
+    let have = [(ONE, Mode::S2), (ONE, Mode::U2), (TWO, Mode::S2)];
+    assert!(rt; are_holders(&l, ROW_1, &have)?);
+    l.release_all(TWO);
+    let last = [(ONE, Mode::S2), (ONE, Mode::U2), (ONE, Mode::X2)];
+    assert!(rt; are_holders(&l, ROW_1, &last)?);
     Ok(())
 }
 
@@ -165,6 +204,8 @@ fn reader_before_writer(rt: HostRuntime) -> Result<(), AllocError> {
     assert_eq!(rt; first_wrong(&mut l, &steps), None);
     assert_eq!(rt; escalates(&mut l, ONE, Mode::TS), Some(Tried::Granted));
     assert_eq!(rt; l.row_count(ONE, 16), 0);
+    assert!(rt; are_holders(&l, ROW_2, &[])?);
+    assert!(rt; are_holders(&l, TABLE, &[(ONE, Mode::TIs), (ONE, Mode::TS)])?);
     let after = [(TWO, TABLE, Mode::TIx, Tried::Conflict(ONE))];
     assert_eq!(rt; first_wrong(&mut l, &after), None);
     Ok(())
@@ -185,8 +226,11 @@ fn reader_after_writer(rt: HostRuntime) -> Result<(), AllocError> {
     let refused = Some(Tried::Conflict(THREE));
     assert_eq!(rt; escalates(&mut l, ONE, Mode::TS), refused);
     assert_eq!(rt; l.row_count(ONE, 16), 3);
+    assert!(rt; are_holders(&l, ROW_2, &[(ONE, Mode::S2)])?);
     let after = [(TWO, TABLE, Mode::TIx, Tried::Granted)];
     assert_eq!(rt; first_wrong(&mut l, &after), None);
+    let have = [(THREE, Mode::TIx), (ONE, Mode::TIs), (TWO, Mode::TIx)];
+    assert!(rt; are_holders(&l, TABLE, &have)?);
     Ok(())
 }
 

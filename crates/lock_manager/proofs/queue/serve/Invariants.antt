@@ -1,12 +1,13 @@
 use Rattle.std.proofs.Common.{◌≡◌, ◌≤◌, ◌+◌, ◌-◌}
 use Rattle.std.specs.Vec.{vec_len, vec_capacity}
 use Rattle.std.specs.VecDeque.{deque_len, deque_capacity}
+use Rattle.lock_manager.specs.Freed.{frees}
 use Rattle.lock_manager.specs.Serve.{Serving}
 use Rattle.lock_manager.proofs.queue.serve.Given as goal
 
 abbrev pub invariant-each : goal.invariant-each
 invariant-each l = record {
-  serving : Serving l.initial.owners.entries l.owners.entries l.before l.initial.line.items l.line.items l.i l.initial.woken.items l.woken.items;
+  serving : Serving (frees l.freed) l.initial.ledger.owners.entries l.ledger.owners.entries l.before l.initial.line.items l.line.items l.i l.initial.woken.items l.woken.items;
   sum : deque_len l.woken + vec_len l.line ≡ deque_len l.initial.woken + vec_len l.initial.line;
   room : deque_capacity l.woken ≡ deque_capacity l.initial.woken;
   held : vec_capacity l.line ≡ vec_capacity l.initial.line;

@@ -8,7 +8,7 @@ use Rattle.lock_modes.specs.declared.name.LockName.{LockName}
 use Rattle.lock_modes.specs.declared.name.LockName.TheVariants.{Table}
 use Rattle.lock_modes.specs.Lock.{Lock, apply, has_grant}
 use Rattle.lock_modes.specs.Modes.{is_held, with_mode}
-use Rattle.lock_modes.specs.Names.{same_txn, same_name}
+use Rattle.lock_modes.specs.Names.{same_name}
 use Rattle.lock_modes.proofs.ModesLemmas.{held_with}
 use Rattle.lock_modes.proofs.NamesLemmas.{txn_refl, name_refl}
 use Rattle.lock_manager.specs.Table.{lock}

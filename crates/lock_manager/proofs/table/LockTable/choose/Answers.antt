@@ -9,14 +9,14 @@ pub invariant_of-self : goal.invariant_of-self
 invariant_of-self c =
     let s = c.args.self.now in
     let q = s.conversions.items ++ s.requests.items in
-    let waits = keep_waits s.owners.entries c.choose.new.owners.entries c.args.t (grants_in s.owners.entries) c.choose.ensures.changes c.choose.ensures.same in
+    let waits = keep_waits s.ledger.owners.entries c.choose.new.self.owners.entries c.args.t (grants_in s.ledger.owners.entries) c.choose.ensures.changes c.choose.ensures.same in
     record {
-      total = keep_total s.owners.entries c.choose.new.owners.entries c.args.t (grants_in s.owners.entries) s.left c.choose.ensures.changes c.choose.ensures.room s.total;
+      total = keep_total s.ledger.owners.entries c.choose.new.self.owners.entries c.args.t (grants_in s.ledger.owners.entries) s.left c.choose.ensures.changes c.choose.ensures.room s.total;
       room = s.room;
-      waiters = waiters_same s.owners.entries c.choose.new.owners.entries waits q s.waiters;
+      waiters = waiters_same s.ledger.owners.entries c.choose.new.self.owners.entries waits q s.waiters;
       only = λ u. waits u ∙ s.only u;
-      settled = settled_as c.choose.new.owners.entries (grants_in s.owners.entries) _ q c.choose.ensures.changes.grants_are s.settled;
-      apart = apart_as c.choose.new.owners.entries (grants_in s.owners.entries) c.choose.ensures.changes.grants_are s.apart;
+      settled = settled_as c.choose.new.self.owners.entries (grants_in s.ledger.owners.entries) _ q c.choose.ensures.changes.grants_are s.settled;
+      apart = apart_as c.choose.new.self.owners.entries (grants_in s.ledger.owners.entries) c.choose.ensures.changes.grants_are s.apart;
     }
 
 pub choose-requires : goal.choose-requires

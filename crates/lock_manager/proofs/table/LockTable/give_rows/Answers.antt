@@ -2,6 +2,8 @@ use Rattle.std.proofs.Common.{◌++◌, ◌∙◌, [], ap, sym, subst, arith}
 use Rattle.lock_modes.specs.Lock.{Grants}
 use Rattle.lock_modes.specs.Serving.{Serves}
 use Rattle.lock_manager.specs.Owners.{grants_in, victim_in}
+use Rattle.lock_modes.specs.Names.{is_row_name}
+use Rattle.lock_manager.proofs.FreedLemmas.{rows_agree, still_settled}
 use Rattle.lock_manager.specs.Table.{lock}
 use Rattle.lock_manager.proofs.BothLemmas.{only_left, settled_both, state_both}
 use Rattle.lock_manager.proofs.TableLemmas.{keep_total, keep_waits, keep_lefts, keep_victims, waiters_same, grants_path}
@@ -14,8 +16,8 @@ use Rattle.lock_manager.proofs.table.LockTable.give_rows.Goals as goal
 pub serve_both-requires-clause-waiters : goal.serve_both-requires-clause-waiters
 serve_both-requires-clause-waiters c =
     let s = c.args.self.now in
-    let after = released_rows (grants_in s.owners.entries) c.args.t c.args.table in
-    waiters_same s.owners.entries c.release_rows.new.owners.entries (keep_waits s.owners.entries c.release_rows.new.owners.entries c.args.t after c.release_rows.ensures.changes c.release_rows.ensures.same) (s.conversions.items ++ s.requests.items) s.waiters
+    let after = released_rows (grants_in s.ledger.owners.entries) c.args.t c.args.table in
+    waiters_same s.ledger.owners.entries c.release_rows.new.self.owners.entries (keep_waits s.ledger.owners.entries c.release_rows.new.self.owners.entries c.args.t after c.release_rows.ensures.changes c.release_rows.ensures.same) (s.conversions.items ++ s.requests.items) s.waiters
 
 pub serve_both-requires-clause-room : goal.serve_both-requires-clause-room
 serve_both-requires-clause-room c = omega (arith, c.args.self.now.room.woken_fit)
@@ -23,15 +25,15 @@ serve_both-requires-clause-room c = omega (arith, c.args.self.now.room.woken_fit
 pub invariant_of-self : goal.invariant_of-self
 invariant_of-self c =
     let s = c.args.self.now in
-    let os1 = c.release_rows.new.owners.entries in
-    let os2 = c.serve_both.new.owners.entries in
-    let after = released_rows (grants_in s.owners.entries) c.args.t c.args.table in
-    let waits = keep_waits s.owners.entries os1 c.args.t after c.release_rows.ensures.changes c.release_rows.ensures.same in
+    let os1 = c.release_rows.new.self.owners.entries in
+    let os2 = c.serve_both.new.ledger.owners.entries in
+    let after = released_rows (grants_in s.ledger.owners.entries) c.args.t c.args.table in
+    let waits = keep_waits s.ledger.owners.entries os1 c.args.t after c.release_rows.ensures.changes c.release_rows.ensures.same in
     let q = s.conversions.items ++ s.requests.items in
-    let w1 = waiters_same s.owners.entries os1 waits q s.waiters in
+    let w1 = waiters_same s.ledger.owners.entries os1 waits q s.waiters in
     let f = c.serve_both.ensures.room in
     record {
-      total = keep_total s.owners.entries os1 c.args.t after s.left c.release_rows.ensures.changes c.release_rows.ensures.room s.total ∙ sym c.serve_both.ensures.served.wakes.total;
+      total = keep_total s.ledger.owners.entries os1 c.args.t after s.left c.release_rows.ensures.changes c.release_rows.ensures.room s.total ∙ sym c.serve_both.ensures.served.wakes.total;
       room = record {
         conversions_fit = omega (arith, s.room.conversions_fit, f.conversions_shorter, f.conversions_room);
         requests_fit = omega (arith, s.room.requests_fit, f.requests_shorter, f.requests_room);
@@ -40,19 +42,19 @@ invariant_of-self c =
       waiters = c.serve_both.ensures.served.waiters;
       only = only_left os1 os2 s.conversions.items s.requests.items c.serve_both.new.conversions.items c.serve_both.new.requests.items s.woken.items c.serve_both.new.woken.items w1 (λ u. waits u ∙ s.only u) c.serve_both.ensures.served;
       settled = settled_both os1 os2 s.conversions.items s.requests.items c.serve_both.new.conversions.items c.serve_both.new.requests.items s.woken.items c.serve_both.new.woken.items c.serve_both.ensures.served;
-      apart = apart_both os1 os2 s.conversions.items s.requests.items c.serve_both.new.conversions.items c.serve_both.new.requests.items s.woken.items c.serve_both.new.woken.items c.serve_both.ensures.served (apart_as os1 after c.release_rows.ensures.changes.grants_are (apart_released_rows (grants_in s.owners.entries) c.args.t c.args.table s.apart));
+      apart = apart_both os1 os2 s.conversions.items s.requests.items c.serve_both.new.conversions.items c.serve_both.new.requests.items s.woken.items c.serve_both.new.woken.items c.serve_both.ensures.served (apart_as os1 after c.release_rows.ensures.changes.grants_are (apart_released_rows (grants_in s.ledger.owners.entries) c.args.t c.args.table s.apart));
     }
 
 pub returns-clause-ok : goal.returns-clause-ok
 returns-clause-ok c =
     let s = c.args.self.now in
-    let os1 = c.release_rows.new.owners.entries in
-    let os2 = c.serve_both.new.owners.entries in
-    let after = released_rows (grants_in s.owners.entries) c.args.t c.args.table in
+    let os1 = c.release_rows.new.self.owners.entries in
+    let os2 = c.serve_both.new.ledger.owners.entries in
+    let after = released_rows (grants_in s.ledger.owners.entries) c.args.t c.args.table in
     let path = grants_path os1 after c.release_rows.ensures.changes.grants_are in
     let b = c.serve_both.ensures.served in
     let q' = c.serve_both.new.conversions.items ++ c.serve_both.new.requests.items in
-    let v = keep_victims s.owners.entries os1 c.args.t after c.release_rows.ensures.changes c.release_rows.ensures.victim in
+    let v = keep_victims s.ledger.owners.entries os1 c.args.t after c.release_rows.ensures.changes c.release_rows.ensures.victim in
     record {
       given = b.woken;
       noted = b.noted;
@@ -63,5 +65,12 @@ returns-clause-ok c =
 pub returns-clause-room : goal.returns-clause-room
 returns-clause-room c =
     let s = c.args.self.now in
-    let after = released_rows (grants_in s.owners.entries) c.args.t c.args.table in
-    λ u. c.serve_both.ensures.served.wakes.lefts u ∙ keep_lefts s.owners.entries c.release_rows.new.owners.entries c.args.t after c.release_rows.ensures.changes c.release_rows.ensures.room u
+    let after = released_rows (grants_in s.ledger.owners.entries) c.args.t c.args.table in
+    λ u. c.serve_both.ensures.served.wakes.lefts u ∙ keep_lefts s.ledger.owners.entries c.release_rows.new.self.owners.entries c.args.t after c.release_rows.ensures.changes c.release_rows.ensures.room u
+
+pub serve_both-requires-clause-still : goal.serve_both-requires-clause-still
+serve_both-requires-clause-still c =
+    let s = c.args.self.now in
+    let g = grants_in s.ledger.owners.entries in
+    let g' = grants_in c.release_rows.new.self.owners.entries in
+    still_settled (is_row_name c.args.table) g g' [] (s.conversions.items ++ s.requests.items) (rows_agree g g' c.args.t c.args.table c.release_rows.ensures.changes.grants_are) s.settled

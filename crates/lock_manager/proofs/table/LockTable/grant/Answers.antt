@@ -16,27 +16,27 @@ pub invariant_of-self : goal.invariant_of-self
 invariant_of-self c =
     let s = c.args.self.now in
     let q = s.conversions.items ++ s.requests.items in
-    let held = is_held (grants_in s.owners.entries c.args.r.txn c.args.r.name) in
-    let after = granted (grants_in s.owners.entries) c.args.r in
-    let waits = keep_waits s.owners.entries c.grant.new.owners.entries c.args.r.txn after c.grant.ensures.changes c.grant.ensures.same in
+    let held = is_held (grants_in s.ledger.owners.entries c.args.r.txn c.args.r.name) in
+    let after = granted (grants_in s.ledger.owners.entries) c.args.r in
+    let waits = keep_waits s.ledger.owners.entries c.grant.new.self.owners.entries c.args.r.txn after c.grant.ensures.changes c.grant.ensures.same in
     let is : c.is_held-held.result ≡ held = c.is_held-held.ensures.exact ∙ ap (λ (m : Modes). is_held m) c.modes_of.ensures.exact in
     let left : c.less_one-self.result ≡ (if held then s.left else s.left - 1) = c.less_one-self.ensures.exact ∙ ap (λ b. if b then s.left else s.left - 1) is in
     let less : c.less_one-self.result ≤ s.left = subst (λ (n : ℕ). n ≤ s.left) (sym left) (less_le held s.left) in
     record {
-      total = left ∙ spent_total s.owners.entries c.grant.new.owners.entries c.args.r.txn after held s.left c.grant.ensures.changes c.grant.ensures.room c.requires.room s.total;
+      total = left ∙ spent_total s.ledger.owners.entries c.grant.new.self.owners.entries c.args.r.txn after held s.left c.grant.ensures.changes c.grant.ensures.room c.requires.room s.total;
       room = record { conversions_fit = omega (arith, s.room.conversions_fit, less); requests_fit = omega (arith, s.room.requests_fit, less); woken_fit = omega (arith, s.room.woken_fit, less) };
-      waiters = waiters_same s.owners.entries c.grant.new.owners.entries waits q s.waiters;
+      waiters = waiters_same s.ledger.owners.entries c.grant.new.self.owners.entries waits q s.waiters;
       only = λ u. waits u ∙ s.only u;
-      settled = settled_as c.grant.new.owners.entries after _ q c.grant.ensures.changes.grants_are (all_blocked_more (grants_in s.owners.entries) c.args.r _ q s.settled);
-      apart = apart_as c.grant.new.owners.entries after c.grant.ensures.changes.grants_are (apart_may (grants_in s.owners.entries) (earlier (lock s) c.args.r) c.args.r s.apart c.requires.may);
+      settled = settled_as c.grant.new.self.owners.entries after _ q c.grant.ensures.changes.grants_are (all_blocked_more (grants_in s.ledger.owners.entries) c.args.r _ q s.settled);
+      apart = apart_as c.grant.new.self.owners.entries after c.grant.ensures.changes.grants_are (apart_may (grants_in s.ledger.owners.entries) (earlier (lock s) c.args.r) c.args.r s.apart c.requires.may);
     }
 
 pub returns-clause-ok : goal.returns-clause-ok
 returns-clause-ok c =
     let s = c.args.self.now in
-    let after = granted (grants_in s.owners.entries) c.args.r in
+    let after = granted (grants_in s.ledger.owners.entries) c.args.r in
     let p = not_among_parts c.args.r.txn s.conversions.items s.requests.items (not_among (lock s) c.args.r.txn c.requires.idle) in
-    lock_path _ _ (grants_path c.grant.new.owners.entries after c.grant.ensures.changes.grants_are)
+    lock_path _ _ (grants_path c.grant.new.self.owners.entries after c.grant.ensures.changes.grants_are)
     (sym (without_none c.args.r.txn c.args.r.name s.conversions.items p.0))
     (sym (without_none c.args.r.txn c.args.r.name s.requests.items p.1))
-    (keep_victims s.owners.entries c.grant.new.owners.entries c.args.r.txn after c.grant.ensures.changes c.grant.ensures.victim)
+    (keep_victims s.ledger.owners.entries c.grant.new.self.owners.entries c.args.r.txn after c.grant.ensures.changes c.grant.ensures.victim)

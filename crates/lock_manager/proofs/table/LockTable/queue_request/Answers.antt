@@ -13,8 +13,8 @@ use Rattle.lock_manager.proofs.table.LockTable.queue_request.Goals as goal
 pub invariant_of-self : goal.invariant_of-self
 invariant_of-self c =
     let s = c.args.self.now in
-    let os = s.owners.entries in
-    let os' = c.wait.new.owners.entries in
+    let os = s.ledger.owners.entries in
+    let os' = c.wait.new.self.owners.entries in
     let g = grants_in os in
     let aside = set_aside os os' c.args.r.txn g s.left c.wait.ensures.changes c.wait.ensures.room s.total in
     let none = not_among (lock s) c.args.r.txn c.requires.idle in
@@ -34,8 +34,8 @@ invariant_of-self c =
 pub push_reserved-requires : goal.push_reserved-requires
 push_reserved-requires c =
     let s = c.args.self.now in
-    let os = s.owners.entries in
-    let os' = c.wait.new.owners.entries in
+    let os = s.ledger.owners.entries in
+    let os' = c.wait.new.self.owners.entries in
     let g = grants_in os in
     let aside = set_aside os os' c.args.r.txn g s.left c.wait.ensures.changes c.wait.ensures.room s.total in
     omega (arith, s.room.requests_fit, aside.0)
@@ -43,8 +43,8 @@ push_reserved-requires c =
 pub overflow_sub-self : goal.overflow_sub-self
 overflow_sub-self c =
     let s = c.args.self.now in
-    let os = s.owners.entries in
-    let os' = c.wait.new.owners.entries in
+    let os = s.ledger.owners.entries in
+    let os' = c.wait.new.self.owners.entries in
     let g = grants_in os in
     let aside = set_aside os os' c.args.r.txn g s.left c.wait.ensures.changes c.wait.ensures.room s.total in
     omega (arith, aside.0)
@@ -52,8 +52,8 @@ overflow_sub-self c =
 pub returns-clause-ok : goal.returns-clause-ok
 returns-clause-ok c =
     let s = c.args.self.now in
-    let os = s.owners.entries in
-    let os' = c.wait.new.owners.entries in
+    let os = s.ledger.owners.entries in
+    let os' = c.wait.new.self.owners.entries in
     let g = grants_in os in
     lock_path _ _ (grants_path os' g c.wait.ensures.changes.grants_are) refl c.push_reserved.ensures.items
     (keep_victims os os' c.args.r.txn g c.wait.ensures.changes c.wait.ensures.victim)
@@ -61,8 +61,8 @@ returns-clause-ok c =
 pub returns-clause-room : goal.returns-clause-room
 returns-clause-room c =
     let s = c.args.self.now in
-    let os = s.owners.entries in
-    let os' = c.wait.new.owners.entries in
+    let os = s.ledger.owners.entries in
+    let os' = c.wait.new.self.owners.entries in
     let g = grants_in os in
     less_left os os' c.args.r.txn g c.wait.ensures.changes c.wait.ensures.room
 

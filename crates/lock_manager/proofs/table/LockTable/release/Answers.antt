@@ -3,6 +3,8 @@ use Rattle.lock_modes.specs.Lock.{Grants, released, apply}
 use Rattle.lock_modes.specs.Serving.{Serves}
 use Rattle.lock_modes.specs.declared.event.LockEvent.TheVariants.{Released}
 use Rattle.lock_manager.specs.Owners.{grants_in, victim_in}
+use Rattle.lock_modes.specs.Names.{same_name}
+use Rattle.lock_manager.proofs.FreedLemmas.{released_agrees, still_settled}
 use Rattle.lock_manager.specs.Table.{lock}
 use Rattle.lock_manager.proofs.BothLemmas.{only_left, settled_both, state_both}
 use Rattle.lock_manager.proofs.TableLemmas.{keep_total, keep_waits, keep_lefts, keep_victims, waiters_same, grants_path}
@@ -14,8 +16,8 @@ use Rattle.lock_manager.proofs.table.LockTable.release.Goals as goal
 pub serve_both-requires-clause-waiters : goal.serve_both-requires-clause-waiters
 serve_both-requires-clause-waiters c =
     let s = c.args.self.now in
-    let after = released (grants_in s.owners.entries) c.args.t c.args.name in
-    waiters_same s.owners.entries c.release.new.owners.entries (keep_waits s.owners.entries c.release.new.owners.entries c.args.t after c.release.ensures.changes c.release.ensures.same) (s.conversions.items ++ s.requests.items) s.waiters
+    let after = released (grants_in s.ledger.owners.entries) c.args.t c.args.name in
+    waiters_same s.ledger.owners.entries c.release.new.self.owners.entries (keep_waits s.ledger.owners.entries c.release.new.self.owners.entries c.args.t after c.release.ensures.changes c.release.ensures.same) (s.conversions.items ++ s.requests.items) s.waiters
 
 pub serve_both-requires-clause-room : goal.serve_both-requires-clause-room
 serve_both-requires-clause-room c = omega (arith, c.args.self.now.room.woken_fit)
@@ -23,15 +25,15 @@ serve_both-requires-clause-room c = omega (arith, c.args.self.now.room.woken_fit
 pub invariant_of-self : goal.invariant_of-self
 invariant_of-self c =
     let s = c.args.self.now in
-    let os1 = c.release.new.owners.entries in
-    let os2 = c.serve_both.new.owners.entries in
-    let after = released (grants_in s.owners.entries) c.args.t c.args.name in
-    let waits = keep_waits s.owners.entries os1 c.args.t after c.release.ensures.changes c.release.ensures.same in
+    let os1 = c.release.new.self.owners.entries in
+    let os2 = c.serve_both.new.ledger.owners.entries in
+    let after = released (grants_in s.ledger.owners.entries) c.args.t c.args.name in
+    let waits = keep_waits s.ledger.owners.entries os1 c.args.t after c.release.ensures.changes c.release.ensures.same in
     let q = s.conversions.items ++ s.requests.items in
-    let w1 = waiters_same s.owners.entries os1 waits q s.waiters in
+    let w1 = waiters_same s.ledger.owners.entries os1 waits q s.waiters in
     let f = c.serve_both.ensures.room in
     record {
-      total = keep_total s.owners.entries os1 c.args.t after s.left c.release.ensures.changes c.release.ensures.room s.total ∙ sym c.serve_both.ensures.served.wakes.total;
+      total = keep_total s.ledger.owners.entries os1 c.args.t after s.left c.release.ensures.changes c.release.ensures.room s.total ∙ sym c.serve_both.ensures.served.wakes.total;
       room = record {
         conversions_fit = omega (arith, s.room.conversions_fit, f.conversions_shorter, f.conversions_room);
         requests_fit = omega (arith, s.room.requests_fit, f.requests_shorter, f.requests_room);
@@ -40,19 +42,19 @@ invariant_of-self c =
       waiters = c.serve_both.ensures.served.waiters;
       only = only_left os1 os2 s.conversions.items s.requests.items c.serve_both.new.conversions.items c.serve_both.new.requests.items s.woken.items c.serve_both.new.woken.items w1 (λ u. waits u ∙ s.only u) c.serve_both.ensures.served;
       settled = settled_both os1 os2 s.conversions.items s.requests.items c.serve_both.new.conversions.items c.serve_both.new.requests.items s.woken.items c.serve_both.new.woken.items c.serve_both.ensures.served;
-      apart = apart_both os1 os2 s.conversions.items s.requests.items c.serve_both.new.conversions.items c.serve_both.new.requests.items s.woken.items c.serve_both.new.woken.items c.serve_both.ensures.served (apart_as os1 after c.release.ensures.changes.grants_are (apart_released (grants_in s.owners.entries) c.args.t c.args.name s.apart));
+      apart = apart_both os1 os2 s.conversions.items s.requests.items c.serve_both.new.conversions.items c.serve_both.new.requests.items s.woken.items c.serve_both.new.woken.items c.serve_both.ensures.served (apart_as os1 after c.release.ensures.changes.grants_are (apart_released (grants_in s.ledger.owners.entries) c.args.t c.args.name s.apart));
     }
 
 pub returns-clause-ok : goal.returns-clause-ok
 returns-clause-ok c =
     let s = c.args.self.now in
-    let os1 = c.release.new.owners.entries in
-    let os2 = c.serve_both.new.owners.entries in
-    let after = released (grants_in s.owners.entries) c.args.t c.args.name in
+    let os1 = c.release.new.self.owners.entries in
+    let os2 = c.serve_both.new.ledger.owners.entries in
+    let after = released (grants_in s.ledger.owners.entries) c.args.t c.args.name in
     let path = grants_path os1 after c.release.ensures.changes.grants_are in
     let b = c.serve_both.ensures.served in
     let q' = c.serve_both.new.conversions.items ++ c.serve_both.new.requests.items in
-    let v = keep_victims s.owners.entries os1 c.args.t after c.release.ensures.changes c.release.ensures.victim in
+    let v = keep_victims s.ledger.owners.entries os1 c.args.t after c.release.ensures.changes c.release.ensures.victim in
     record {
       given = b.woken;
       noted = b.noted;
@@ -63,10 +65,17 @@ returns-clause-ok c =
 pub returns-clause-settled : goal.returns-clause-settled
 returns-clause-settled c =
     let s = c.args.self.now in
-    settled_both c.release.new.owners.entries c.serve_both.new.owners.entries s.conversions.items s.requests.items c.serve_both.new.conversions.items c.serve_both.new.requests.items s.woken.items c.serve_both.new.woken.items c.serve_both.ensures.served
+    settled_both c.release.new.self.owners.entries c.serve_both.new.ledger.owners.entries s.conversions.items s.requests.items c.serve_both.new.conversions.items c.serve_both.new.requests.items s.woken.items c.serve_both.new.woken.items c.serve_both.ensures.served
 
 pub returns-clause-room : goal.returns-clause-room
 returns-clause-room c =
     let s = c.args.self.now in
-    let after = released (grants_in s.owners.entries) c.args.t c.args.name in
-    λ u. c.serve_both.ensures.served.wakes.lefts u ∙ keep_lefts s.owners.entries c.release.new.owners.entries c.args.t after c.release.ensures.changes c.release.ensures.room u
+    let after = released (grants_in s.ledger.owners.entries) c.args.t c.args.name in
+    λ u. c.serve_both.ensures.served.wakes.lefts u ∙ keep_lefts s.ledger.owners.entries c.release.new.self.owners.entries c.args.t after c.release.ensures.changes c.release.ensures.room u
+
+pub serve_both-requires-clause-still : goal.serve_both-requires-clause-still
+serve_both-requires-clause-still c =
+    let s = c.args.self.now in
+    let g = grants_in s.ledger.owners.entries in
+    let g' = grants_in c.release.new.self.owners.entries in
+    still_settled (same_name c.args.name) g g' [] (s.conversions.items ++ s.requests.items) (released_agrees g g' c.args.t c.args.name c.release.ensures.changes.grants_are) s.settled

@@ -1,4 +1,4 @@
-use Rattle.std.proofs.Common.{◌≡◌, ◌++◌, ◌∙◌, [], List, ap, sym, subst, arith}
+use Rattle.std.proofs.Common.{◌≡◌, Option, ◌++◌, ◌∙◌, [], List, ap, sym, subst, arith}
 use Rattle.lock_modes.specs.declared.entry.Request.{Request}
 use Rattle.lock_modes.specs.Lock.{Grants, released_all, without, apply}
 use Rattle.lock_modes.specs.Serving.{Serves}
@@ -9,6 +9,14 @@ use Rattle.lock_modes.specs.Names.{same_txn}
 use Rattle.lock_manager.specs.Serve.{Waiters, ServedBoth, is_among}
 use Rattle.std.specs.Prelude.{◌&&◌, not, false}
 use Rattle.lock_manager.specs.Owners.{waits_in}
+use Rattle.std.specs.List.{find}
+use Rattle.lock_modes.specs.Modes.{is_held}
+use Rattle.lock_modes.specs.declared.name.LockName.{LockName}
+use Rattle.lock_manager.specs.declared.owner.Owner.{Owner}
+use Rattle.lock_manager.specs.declared.freed.Freed.TheVariants.{All}
+use Rattle.lock_manager.specs.Freed.{frees, name_of, StillBlocked}
+use Rattle.lock_manager.specs.Owners.{owner_of, modes_of}
+use Rattle.lock_manager.proofs.FreedLemmas.{still_gone, gone_agrees, one_request}
 use Rattle.lock_manager.specs.Table.{lock}
 use Rattle.lock_manager.proofs.BothLemmas.{waiters_gone, only_gone, only_left, settled_both, state_both}
 use Rattle.lock_manager.proofs.TableLemmas.{grants_path}
@@ -20,11 +28,11 @@ use Rattle.lock_manager.proofs.table.LockTable.release_all.Goals as goal
 pub serve_both-requires-clause-waiters : goal.serve_both-requires-clause-waiters
 serve_both-requires-clause-waiters c =
     let s = c.args.self.now in
-    let os = s.owners.entries in
-    let os1 = c.remove.new.owners.entries in
+    let os = s.ledger.owners.entries in
+    let os1 = c.remove-had.new.self.owners.entries in
     let cs = without c.args.t s.conversions.items in
     let rs = without c.args.t s.requests.items in
-    let gone = c.remove.ensures.gone in
+    let gone = c.remove-had.ensures.gone in
     let others : (u : TxnNo) → same_txn c.args.t u ≡ false → waits_in os1 u ≡ waits_in os u = λ u other. gone.waits u ∙ ap (λ z. not z && waits_in os u) other in
     let w1 : Waiters os1 (cs ++ rs) = waiters_gone os os1 c.args.t others s.conversions.items s.requests.items s.waiters in
     let only1 : (u : TxnNo) → waits_in os1 u ≡ is_among u (cs ++ rs) = only_gone os os1 c.args.t gone.waits s.conversions.items s.requests.items s.only in
@@ -36,12 +44,12 @@ serve_both-requires-clause-room c = omega (arith, c.args.self.now.room.woken_fit
 pub invariant_of-self : goal.invariant_of-self
 invariant_of-self c =
     let s = c.args.self.now in
-    let os = s.owners.entries in
-    let os1 = c.remove.new.owners.entries in
-    let os2 = c.serve_both.new.owners.entries in
+    let os = s.ledger.owners.entries in
+    let os1 = c.remove-had.new.self.owners.entries in
+    let os2 = c.serve_both.new.ledger.owners.entries in
     let cs = without c.args.t s.conversions.items in
     let rs = without c.args.t s.requests.items in
-    let gone = c.remove.ensures.gone in
+    let gone = c.remove-had.ensures.gone in
     let others : (u : TxnNo) → same_txn c.args.t u ≡ false → waits_in os1 u ≡ waits_in os u = λ u other. gone.waits u ∙ ap (λ z. not z && waits_in os u) other in
     let w1 : Waiters os1 (cs ++ rs) = waiters_gone os os1 c.args.t others s.conversions.items s.requests.items s.waiters in
     let only1 : (u : TxnNo) → waits_in os1 u ≡ is_among u (cs ++ rs) = only_gone os os1 c.args.t gone.waits s.conversions.items s.requests.items s.only in
@@ -49,7 +57,7 @@ invariant_of-self c =
     subst (λ (x : List Request). ServedBoth os1 os2 x rs c.serve_both.new.conversions.items c.serve_both.new.requests.items s.woken.items c.serve_both.new.woken.items) c.drop_requests.ensures.exact
     (subst (λ (x : List Request). ServedBoth os1 os2 c.drop_requests.new.requests.items x c.serve_both.new.conversions.items c.serve_both.new.requests.items s.woken.items c.serve_both.new.woken.items) c.drop_requests-2.ensures.exact c.serve_both.ensures.served) in
     let f = c.serve_both.ensures.room in
-    let total1 = c.remove.ensures.total in
+    let total1 = c.remove-had.ensures.total in
     let left = c.left-left.ensures.exact in
     record {
       total = omega (arith, s.total, total1, left, served.wakes.total);
@@ -61,25 +69,25 @@ invariant_of-self c =
       waiters = served.waiters;
       only = only_left os1 os2 cs rs c.serve_both.new.conversions.items c.serve_both.new.requests.items s.woken.items c.serve_both.new.woken.items w1 only1 served;
       settled = settled_both os1 os2 cs rs c.serve_both.new.conversions.items c.serve_both.new.requests.items s.woken.items c.serve_both.new.woken.items served;
-      apart = apart_both os1 os2 cs rs c.serve_both.new.conversions.items c.serve_both.new.requests.items s.woken.items c.serve_both.new.woken.items served (apart_as os1 (released_all (grants_in os) c.args.t) c.remove.ensures.grants (apart_released_all (grants_in os) c.args.t s.apart));
+      apart = apart_both os1 os2 cs rs c.serve_both.new.conversions.items c.serve_both.new.requests.items s.woken.items c.serve_both.new.woken.items served (apart_as os1 (released_all (grants_in os) c.args.t) c.remove-had.ensures.grants (apart_released_all (grants_in os) c.args.t s.apart));
     }
 
 pub returns-clause-ok : goal.returns-clause-ok
 returns-clause-ok c =
     let s = c.args.self.now in
-    let os = s.owners.entries in
-    let os1 = c.remove.new.owners.entries in
-    let os2 = c.serve_both.new.owners.entries in
+    let os = s.ledger.owners.entries in
+    let os1 = c.remove-had.new.self.owners.entries in
+    let os2 = c.serve_both.new.ledger.owners.entries in
     let cs = without c.args.t s.conversions.items in
     let rs = without c.args.t s.requests.items in
-    let gone = c.remove.ensures.gone in
+    let gone = c.remove-had.ensures.gone in
     let others : (u : TxnNo) → same_txn c.args.t u ≡ false → waits_in os1 u ≡ waits_in os u = λ u other. gone.waits u ∙ ap (λ z. not z && waits_in os u) other in
     let w1 : Waiters os1 (cs ++ rs) = waiters_gone os os1 c.args.t others s.conversions.items s.requests.items s.waiters in
     let only1 : (u : TxnNo) → waits_in os1 u ≡ is_among u (cs ++ rs) = only_gone os os1 c.args.t gone.waits s.conversions.items s.requests.items s.only in
     let served : ServedBoth os1 os2 cs rs c.serve_both.new.conversions.items c.serve_both.new.requests.items s.woken.items c.serve_both.new.woken.items =
     subst (λ (x : List Request). ServedBoth os1 os2 x rs c.serve_both.new.conversions.items c.serve_both.new.requests.items s.woken.items c.serve_both.new.woken.items) c.drop_requests.ensures.exact
     (subst (λ (x : List Request). ServedBoth os1 os2 c.drop_requests.new.requests.items x c.serve_both.new.conversions.items c.serve_both.new.requests.items s.woken.items c.serve_both.new.woken.items) c.drop_requests-2.ensures.exact c.serve_both.ensures.served) in
-    let path = grants_path os1 (released_all (grants_in os) c.args.t) c.remove.ensures.grants in
+    let path = grants_path os1 (released_all (grants_in os) c.args.t) c.remove-had.ensures.grants in
     let q' = c.serve_both.new.conversions.items ++ c.serve_both.new.requests.items in
     record {
       given = served.woken;
@@ -91,12 +99,12 @@ returns-clause-ok c =
 pub returns-clause-settled : goal.returns-clause-settled
 returns-clause-settled c =
     let s = c.args.self.now in
-    let os = s.owners.entries in
-    let os1 = c.remove.new.owners.entries in
-    let os2 = c.serve_both.new.owners.entries in
+    let os = s.ledger.owners.entries in
+    let os1 = c.remove-had.new.self.owners.entries in
+    let os2 = c.serve_both.new.ledger.owners.entries in
     let cs = without c.args.t s.conversions.items in
     let rs = without c.args.t s.requests.items in
-    let gone = c.remove.ensures.gone in
+    let gone = c.remove-had.ensures.gone in
     let others : (u : TxnNo) → same_txn c.args.t u ≡ false → waits_in os1 u ≡ waits_in os u = λ u other. gone.waits u ∙ ap (λ z. not z && waits_in os u) other in
     let w1 : Waiters os1 (cs ++ rs) = waiters_gone os os1 c.args.t others s.conversions.items s.requests.items s.waiters in
     let only1 : (u : TxnNo) → waits_in os1 u ≡ is_among u (cs ++ rs) = only_gone os os1 c.args.t gone.waits s.conversions.items s.requests.items s.only in
@@ -106,4 +114,23 @@ returns-clause-settled c =
     settled_both os1 os2 cs rs c.serve_both.new.conversions.items c.serve_both.new.requests.items s.woken.items c.serve_both.new.woken.items served
 
 pub returns-clause-room : goal.returns-clause-room
-returns-clause-room c = λ u. c.serve_both.ensures.served.wakes.lefts u ∙ c.remove.ensures.gone.lefts u
+returns-clause-room c = λ u. c.serve_both.ensures.served.wakes.lefts u ∙ c.remove-had.ensures.gone.lefts u
+
+pub serve_both-requires-clause-still : goal.serve_both-requires-clause-still
+serve_both-requires-clause-still c =
+    let s = c.args.self.now in
+    let os = s.ledger.owners.entries in
+    let g' = grants_in c.remove-had.new.self.owners.entries in
+    let q = s.conversions.items ++ s.requests.items in
+    let mine = name_of (find (λ r. same_txn r.txn c.args.t) q) in
+    let asked : c.name_of-asked.result ≡ mine =
+    c.name_of-asked.ensures.exact ∙ ap name_of (c.request_of.ensures.exact ∙ (λ i. find (λ r. same_txn r.txn c.args.t) (c.deref.ensures.value i ++ c.deref-2.ensures.value i))) in
+    let w : StillBlocked (frees (All (owner_of os c.args.t) mine)) g' [] (without c.args.t s.conversions.items ++ without c.args.t s.requests.items) =
+    still_gone (frees (All (owner_of os c.args.t) mine)) (grants_in os) g' c.args.t s.conversions.items s.requests.items
+    (gone_agrees os g' c.args.t mine c.remove-had.ensures.grants) (one_request (λ k. is_held (modes_of (owner_of os c.args.t) k)) os c.args.t q s.waiters) s.settled in
+    let lists : StillBlocked (frees (All (owner_of os c.args.t) mine)) g' [] (c.drop_requests.new.requests.items ++ c.drop_requests-2.new.requests.items) =
+    subst (λ (x : List Request). StillBlocked (frees (All (owner_of os c.args.t) mine)) g' [] (x ++ c.drop_requests-2.new.requests.items)) (sym c.drop_requests.ensures.exact)
+    (subst (λ (x : List Request). StillBlocked (frees (All (owner_of os c.args.t) mine)) g' [] (without c.args.t s.conversions.items ++ x)) (sym c.drop_requests-2.ensures.exact) w) in
+    let had : StillBlocked (frees (All c.remove-had.result mine)) g' [] (c.drop_requests.new.requests.items ++ c.drop_requests-2.new.requests.items) =
+    subst (λ (o : Option Owner). StillBlocked (frees (All o mine)) g' [] (c.drop_requests.new.requests.items ++ c.drop_requests-2.new.requests.items)) (sym c.remove-had.ensures.owner) lists in
+    subst (λ (n : Option LockName). StillBlocked (frees (All c.remove-had.result n)) g' [] (c.drop_requests.new.requests.items ++ c.drop_requests-2.new.requests.items)) (sym asked) had

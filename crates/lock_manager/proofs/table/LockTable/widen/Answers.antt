@@ -9,8 +9,8 @@ use Rattle.lock_manager.proofs.table.LockTable.widen.Goals as goal
 pub invariant_of-self-in-Break-branch-2 : goal.invariant_of-self-in-Break-branch-2
 invariant_of-self-in-Break-branch-2 c =
     let s = c.args.self.now in
-    let os = s.owners.entries in
-    let os1 = c.open.new.owners.entries in
+    let os = s.ledger.owners.entries in
+    let os1 = c.open.new.self.owners.entries in
     let grows = c.make_room.ensures.same in
     let same1 = c.open.ensures.same in
     record {
@@ -25,11 +25,11 @@ invariant_of-self-in-Break-branch-2 c =
 pub invariant_of-self-in-Err-1 : goal.invariant_of-self-in-Err-1
 invariant_of-self-in-Err-1 c =
     let s = c.args.self.now in
-    let os = s.owners.entries in
-    let os1 = c.open.new.owners.entries in
+    let os = s.ledger.owners.entries in
+    let os1 = c.open.new.self.owners.entries in
     let grows = c.make_room.ensures.same in
     let same1 = c.open.ensures.same in
-    let os2 = c.reserve.new.owners.entries in
+    let os2 = c.reserve.new.self.owners.entries in
     let ch = c.reserve.ensures.changes in
     let waits2 : (u : TxnNo) → waits_in os2 u ≡ waits_in os u = λ u. keep_waits os1 os2 c.args.t (grants_in os1) ch c.reserve.ensures.same u ∙ same1.waits u in
     let grants2 : (u : TxnNo) (n : LockName) → grants_in os2 u n ≡ grants_in os u n = λ u n. ch.grants_are u n ∙ same1.grants u n in
@@ -45,11 +45,11 @@ invariant_of-self-in-Err-1 c =
 pub invariant_of-self-in-Ok : goal.invariant_of-self-in-Ok
 invariant_of-self-in-Ok c =
     let s = c.args.self.now in
-    let os = s.owners.entries in
-    let os1 = c.open.new.owners.entries in
+    let os = s.ledger.owners.entries in
+    let os1 = c.open.new.self.owners.entries in
     let grows = c.make_room.ensures.same in
     let same1 = c.open.ensures.same in
-    let os2 = c.reserve.new.owners.entries in
+    let os2 = c.reserve.new.self.owners.entries in
     let ch = c.reserve.ensures.changes in
     let waits2 : (u : TxnNo) → waits_in os2 u ≡ waits_in os u = λ u. keep_waits os1 os2 c.args.t (grants_in os1) ch c.reserve.ensures.same u ∙ same1.waits u in
     let grants2 : (u : TxnNo) (n : LockName) → grants_in os2 u n ≡ grants_in os u n = λ u n. ch.grants_are u n ∙ same1.grants u n in
@@ -68,11 +68,11 @@ invariant_of-self-in-Ok c =
 pub returns-in-Ok-clause-same : goal.returns-in-Ok-clause-same
 returns-in-Ok-clause-same c =
     let s = c.args.self.now in
-    let os = s.owners.entries in
-    let os1 = c.open.new.owners.entries in
+    let os = s.ledger.owners.entries in
+    let os1 = c.open.new.self.owners.entries in
     let grows = c.make_room.ensures.same in
     let same1 = c.open.ensures.same in
-    let os2 = c.reserve.new.owners.entries in
+    let os2 = c.reserve.new.self.owners.entries in
     let ch = c.reserve.ensures.changes in
     let waits2 : (u : TxnNo) → waits_in os2 u ≡ waits_in os u = λ u. keep_waits os1 os2 c.args.t (grants_in os1) ch c.reserve.ensures.same u ∙ same1.waits u in
     let grants2 : (u : TxnNo) (n : LockName) → grants_in os2 u n ≡ grants_in os u n = λ u n. ch.grants_are u n ∙ same1.grants u n in
@@ -82,11 +82,11 @@ returns-in-Ok-clause-same c =
 pub returns-in-Err-clause-same : goal.returns-in-Err-clause-same
 returns-in-Err-clause-same c =
     let s = c.args.self.now in
-    let os = s.owners.entries in
-    let os1 = c.open.new.owners.entries in
+    let os = s.ledger.owners.entries in
+    let os1 = c.open.new.self.owners.entries in
     let grows = c.make_room.ensures.same in
     let same1 = c.open.ensures.same in
-    let os2 = c.reserve.new.owners.entries in
+    let os2 = c.reserve.new.self.owners.entries in
     let ch = c.reserve.ensures.changes in
     let waits2 : (u : TxnNo) → waits_in os2 u ≡ waits_in os u = λ u. keep_waits os1 os2 c.args.t (grants_in os1) ch c.reserve.ensures.same u ∙ same1.waits u in
     let grants2 : (u : TxnNo) (n : LockName) → grants_in os2 u n ≡ grants_in os u n = λ u n. ch.grants_are u n ∙ same1.grants u n in

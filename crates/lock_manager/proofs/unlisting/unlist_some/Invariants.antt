@@ -1,0 +1,12 @@
+use Rattle.std.proofs.Common.{◌≤◌}
+use Rattle.std.specs.HashMap.{spare}
+use Rattle.lock_modes.specs.Names.{is_row_name}
+use Rattle.lock_manager.specs.Places.{IsPacked, Unlists}
+use Rattle.lock_manager.proofs.unlisting.unlist_some.Given as goal
+
+abbrev pub invariant-loop-name : goal.invariant-loop-name
+invariant-loop-name l = record {
+  packed : IsPacked l.places;
+  kept : Unlists l.initial.places l.places (is_row_name l.table) l.txn;
+  room : spare l.initial.places ≤ spare l.places;
+}
