@@ -3,7 +3,7 @@ pub mod Moments
 pub mod Steps
 pub mod Lists
 pub mod Prefix
-pub mod Places
+pub mod Standing
 pub mod Runs
 pub mod Growing
 pub mod Records

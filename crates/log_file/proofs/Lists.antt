@@ -12,7 +12,7 @@ use Rattle.log_records.proofs.WholeLemmas.{length-stored}
 use Rattle.log_file.specs.declared.file.LogFile.{LogFile}
 use Rattle.log_file.specs.Tail.{pending, end_of, IsOn, tail}
 use Rattle.log_file.specs.List.{on_disk, in_buffer, StandsAt, follower, place_behind, behind, Runs, forced_of, IsLog}
-use Rattle.log_file.proofs.Places.{AtMost, inside, same_place, stands_same, stands_as, same_part}
+use Rattle.log_file.proofs.Standing.{AtMost, inside, same_place, stands_same, stands_as, same_part}
 use Rattle.log_file.proofs.Runs.{runs_to, runs_push, runs_append}
 
 -- the bytes in the buffer

@@ -15,7 +15,7 @@ use Rattle.log_file.specs.declared.file.LogFile.{LogFile}
 use Rattle.log_file.specs.Tail.{pending, end_of}
 use Rattle.log_file.specs.List.{Bytes, on_disk, in_buffer, in_log, StandsAt, behind, Runs, Reads, forced_of, IsLog}
 use Rattle.log_file.specs.Crash.{IsLeft, KeepsBytes, Stands, AreRecords, OnlyAppended, ReadsFront}
-use Rattle.log_file.proofs.Places.{inside, stands_same, stands_as, bytes_of_begins, long_enough, same_part}
+use Rattle.log_file.proofs.Standing.{inside, stands_same, stands_as, bytes_of_begins, long_enough, same_part}
 use Rattle.log_file.proofs.Runs.{runs_to, runs_append, reads_behind}
 use Rattle.log_file.proofs.Lists.{pending_len, forced_stand, kept_inside}
 

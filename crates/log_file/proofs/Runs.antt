@@ -3,7 +3,7 @@ use Rattle.std.proofs.Common.{List, [], ◌∷◌, ◌++◌, refl, sym, ap, subs
 use Rattle.dby_types.specs.declared.number.Lsn.{Lsn}
 use Rattle.log_records.specs.Content.{LogRecord}
 use Rattle.log_file.specs.List.{Bytes, StandsAt, behind, Runs, Reads}
-use Rattle.log_file.proofs.Places.{AtMost, at_most, behind_later}
+use Rattle.log_file.proofs.Standing.{AtMost, at_most, behind_later}
 
 -- they lead onward
 pub runs_later : (b : Bytes) (at to : Lsn) (rs : List LogRecord) → Runs b at rs to → AtMost at to

@@ -12,7 +12,7 @@ use Rattle.log_file.specs.declared.file.LogFile.{LogFile}
 use Rattle.log_file.specs.Tail.{pending, end_of, tail, IsOn, next_of, Left, IsNext, Same, Grows}
 use Rattle.log_file.specs.List.{on_disk, in_buffer, StandsAt, follower, behind, Runs, forced_of, IsLog}
 use Rattle.log_file.specs.Crash.{IsLeft, KeepsForced, Stands, Stays, Forces, Holds, Gains}
-use Rattle.log_file.proofs.Places.{same_place, stands_as, stands_same, same_part}
+use Rattle.log_file.proofs.Standing.{same_place, stands_as, stands_same, same_part}
 use Rattle.log_file.proofs.Runs.{runs_to, runs_push}
 use Rattle.log_file.proofs.Lists.{pending_len, forced_stand, forced_list, put_list, all_stand}
 use Rattle.log_file.proofs.Prefix.{kept_left}
@@ -181,3 +181,19 @@ gains_more old mid new before after may_before may_after x r first then = λ fro
 pub gains_one : (old mid new : LogFile) (before after : Segments) (may_before may_after : MayLog) (r : LogRecord) → Holds old mid before after may_before may_after
     → ((from : Lsn) (rs : List LogRecord) (n : ℕ) → Stands mid after may_after from rs n → Stands new after may_after from (rs ++ r ∷ []) n) → Gains (r ∷ []) old new before after may_before may_after
 gains_one old mid new before after may_before may_after r first then = λ from rs n h. let m = first from rs n h in (m.0, m.1, then from rs m.0 m.2)
+
+-- the same, and the same again
+pub same_again : (old mid new : LogFile) → Same old mid → Same mid new → Same old new
+same_again old mid new a b = record {
+  segment_is = b.segment_is ∙ a.segment_is;
+  forced_is = b.forced_is ∙ a.forced_is;
+  used_is = b.used_is ∙ a.used_is;
+  pending_is = b.pending_is ∙ a.pending_is;
+  point_is = b.point_is ∙ a.point_is;
+}
+
+pub same_forced : (old new : LogFile) → Same old new → forced_of new ≡ forced_of old
+same_forced old new e = same_place (forced_of new) (forced_of old) e.segment_is e.forced_is
+
+pub still_on : (old new : LogFile) (before after : Segments) → Same old new → SameLog before after → IsOn old before → IsOn new after
+still_on old new before after e still on = omega (arith, e.forced_is, on, ap length (ap after e.segment_is ∙ still old.segment))

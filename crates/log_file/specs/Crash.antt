@@ -15,6 +15,11 @@ pub record IsLeft (l : LogFile) (log : Segments) (s : ℕ) (b : List ℕ) : Type
   pub current : s ≡ l.segment → take l.forced b ≡ take l.forced (log l.segment)
   pub later : l.segment < s → b ≡ []
 
+-- whatever its list is and a crash leaves of it, it is so for the new log too
+abbrev pub IsUnmoved : LogFile → LogFile → Type 0
+IsUnmoved old new =
+    ((log : Segments) (from : Lsn) (rs : List LogRecord) (n : ℕ) → IsLog old log from rs n → IsLog new log from rs n) × ((log : Segments) (s : ℕ) (b : List ℕ) → IsLeft old log s b → IsLeft new log s b)
+
 -- a crash leaves every other segment as before, and of the one with this place every byte in front of it
 abbrev pub KeepsBytes : Lsn → MayLog → ℕ → List ℕ → Type 0
 KeepsBytes end may_log s b = (d : List ℕ) × (may_log s d × ((s ≡ end.segment → ⊥) → b ≡ d) × (s ≡ end.segment → end.offset ≤ length d → take end.offset b ≡ take end.offset d))

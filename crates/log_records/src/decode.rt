@@ -1,6 +1,7 @@
 //! A record read from its bytes.
 
 ghost use Rattle.std.specs.Prelude.{◌≡◌, ◌⊎◌, ℕ, List, MatchOption, drop};
+ghost use Rattle.dby_types.specs.declared.number.Lsn.{Lsn};
 ghost use Rattle.log_records.specs.Content.{LogRecord};
 ghost use Rattle.log_records.specs.Format.{size_of};
 ghost use Rattle.log_records.specs.Reading.{IsWhole};
@@ -49,3 +50,8 @@ pub fn decode<'a>(b: &'a [u8], at: Lsn) -> Option<(Record<'a>, usize)>
         None => None,
     }
 }
+
+/// Bytes begin with at most one record at a place.
+pub fn laws()
+    ensures { (at : Lsn) (b : List ℕ) (r x : LogRecord) (rest more : List ℕ) → Begins at b r rest → Begins at b x more → r ≡ x }
+{}
