@@ -1,5 +1,5 @@
 -- What a force and an append do to the current segment.
-use Rattle.std.proofs.Common.{◌≡◌, ◌+◌, ◌-◌, ◌≤◌, ℕ, List, [], ◌++◌, length, take, drop, replicate, sym, ap, ◌∙◌, arith, append-nil, append_assoc, length-append, length-drop}
+use Rattle.std.proofs.Common.{◌≡◌, ◌+◌, ◌-◌, ◌≤◌, ℕ, List, [], ◌++◌, length, take, drop, replicate, refl, inl, sym, ap, ◌∙◌, arith, append-nil, append_assoc, length-append, length-drop}
 use Rattle.std.proofs.lemmas.List.{take_at, drop_all, take-take, take-append-le, length-take-le}
 use Rattle.std.specs.Prelude.{Result, Ok, Err, OnOk}
 use Rattle.dby_types.specs.declared.number.Lsn.{Lsn}
@@ -94,3 +94,12 @@ pub next_end : (old mid : LogFile) → IsNext old mid → mid.used ≡ 0 → end
 next_end old mid n u =
     let off : mid.forced + mid.used ≡ 0 = omega (arith, n.forced_is, u) in
     ap (λ (m : ℕ). record { segment = m; offset = mid.forced + mid.used }) n.segment_is ∙ ap (λ (m : ℕ). record { segment = old.segment + 1; offset = m }) off
+
+-- the record that names the next segment is one at the log's end
+pub next_is_record : (l : LogFile) → IsRecord (end_of l) (next_of (l.segment + 1))
+next_is_record l = record {
+  legal = record { txn_is = omega arith; back_is = inl (refl, refl); body_is = omega arith };
+  fields =
+      (omega arith, (omega (arith, l.segment_is), (omega (arith, l.room_is), (omega arith, (omega arith, (omega arith, (omega arith, (omega arith, (omega arith, (omega arith, tt))))))))));
+  body_fits = (omega (arith, l.segment_is), tt);
+}
