@@ -1,2 +1,9 @@
+pub mod Crashing
+pub mod Moments
+pub mod Steps
+pub mod Lists
+pub mod Prefix
+pub mod Standing
+pub mod Runs
 pub mod Growing
 pub mod Records

@@ -1,3 +1,5 @@
 pub mod Control
+pub mod Crash
+pub mod List
 pub mod Reading
 pub mod Tail

@@ -4,8 +4,9 @@ use Rattle.dby_types.specs.declared.number.Lsn.{Lsn}
 use Rattle.log_records.specs.Content.{LogRecord}
 use Rattle.log_records.specs.Content.LogBody.{next_segment}
 use Rattle.log_records.specs.Format.{size_of, stored_record}
+use Rattle.log_records.specs.Rules.{IsRecord}
 use Rattle.device.specs.Counts.{Rises}
-use Rattle.device.specs.Disk.{Segments, MayLog}
+use Rattle.device.specs.Disk.{Segments}
 use Rattle.log_file.specs.declared.file.LogFile.{LogFile}
 use Rattle.log_file.specs.declared.answer.LogAnswer.{LogAnswer}
 use Rattle.log_file.specs.declared.answer.LogAnswer.TheVariants.{Failed, Full}
@@ -39,6 +40,7 @@ next_of segment = record { txn = 0; back = record { segment = 0; offset = 0 }; b
 
 -- the segment ends with the record that names the next one, and no other segment changed
 pub record Left (old : LogFile) (before after : Segments) : Type 0 where
+  pub record_is : IsRecord (end_of old) (next_of (old.segment + 1))
   pub bytes : take (old.forced + old.used + 44) (after old.segment) ≡ tail old before ++ stored_record (end_of old) (next_of (old.segment + 1))
   pub others : (s : ℕ) → (s ≡ old.segment → ⊥) → after s ≡ before s
 
@@ -51,12 +53,6 @@ pub record IsNext (old new : LogFile) : Type 0 where
 -- the place where the next segment begins
 abbrev pub next_place : LogFile → Lsn
 next_place l = record { segment = l.segment + 1; offset = 0 }
-
--- the segment was left, and this record is the first one of the next
-pub record Moves (old new : LogFile) (before after : Segments) (r : LogRecord) : Type 0 where
-  pub left : Left old before after
-  pub next : IsNext old new
-  pub pending_is : pending new ≡ stored_record (next_place old) r
 
 -- a record has room in the current segment, with the record that names the next one behind it
 abbrev pub FitsSegment : LogFile → LogRecord → Type 0
@@ -74,7 +70,3 @@ pub record Same (old new : LogFile) : Type 0 where
   pub used_is : new.used ≡ old.used
   pub pending_is : pending new ≡ pending old
   pub point_is : new.point ≡ old.point
-
--- a crash leaves every other segment as before, and of this one every byte that was forced
-abbrev pub KeepsForced : LogFile → MayLog → MayLog → Type 0
-KeepsForced l old new = (s : ℕ) (b : List ℕ) → new s b → (d : List ℕ) × (old s d × ((s ≡ l.segment → ⊥) → b ≡ d) × (s ≡ l.segment → l.forced ≤ length d → take l.forced b ≡ take l.forced d))

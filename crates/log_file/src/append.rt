@@ -1,11 +1,13 @@
 //! Records put at the log's end.
 
-ghost use Rattle.std.specs.Prelude.{◌≡◌, ◌≤◌, ◌<◌, ◌+◌, ◌++◌, ◌↔◌, [], IsTrue, OnOk, OnErr, IfOk, IfErr, take, length};
+ghost use Rattle.std.specs.Prelude.{◌≡◌, ◌≤◌, ◌<◌, ◌+◌, ◌++◌, ◌↔◌, ◌∷◌, [], None, IsTrue, OnOk, OnErr, IfOk, IfErr, take, length};
 ghost use Rattle.device.specs.Counts.{HasCause, Rises};
 ghost use Rattle.log_records.specs.Format.{size_of, stored_record};
-ghost use Rattle.log_records.specs.Rules.{IsLegal};
-ghost use Rattle.log_records.specs.View.{record_of};
-ghost use Rattle.log_file.specs.Tail.{Grows, IsOn, Same, end_of, pending};
+ghost use Rattle.log_records.specs.Rules.{IsLegal, IsRecord};
+ghost use Rattle.log_records.specs.View.{body_of, record_of};
+ghost use Rattle.log_file.specs.Crash.{Crashes, Gains, Holds, Stays};
+ghost use Rattle.log_file.specs.List.{follower, forced_of};
+ghost use Rattle.log_file.specs.Tail.{Same, end_of, pending};
 
 use crate::file::{BUFFER, LogFile, SEGMENT};
 use dby_types::number::Lsn;
@@ -23,6 +25,7 @@ pub fn encode_behind(into: &mut [u8], used: usize, r: &Record<'_>, at: Lsn)
     requires room { used + size_of (record_of r.now) ≤ length into.old }
     ensures behind { take (used + size_of (record_of r.now)) into.new ≡ take used into.old ++ stored_record at (record_of r.now) }
     ensures before { take used into.new ≡ take used into.old }
+    ensures record { IsRecord at (record_of r.now) }
 {
     encode(r, at, &mut into[used..]);
 }
@@ -52,6 +55,7 @@ impl LogFile {
         ensures place { result ≡ end_of self.old }
         ensures pending { pending self.new ≡ pending self.old ++ stored_record (end_of self.old) (record_of r.now) }
         ensures used { self.new.used ≡ self.old.used + size }
+        ensures record { IsRecord (end_of self.old) (record_of r.now) }
         ensures same { (self.new.segment ≡ self.old.segment) × (self.new.forced ≡ self.old.forced) × (self.new.point ≡ self.old.point) × (self.new.at ≡ self.old.at) }
     {
         let at = self.end();
@@ -63,9 +67,10 @@ impl LogFile {
     /// Makes room for a record of this size in the current segment, by a force where there is none beside the records that wait for it.
     pub(crate) fn make_room<D: Disk>(&mut self, disk: &mut D, size: usize) -> Result<(), Failed>
         requires { (size ≤ 20000) × (self.old.forced + self.old.used + size + 44 ≤ 16777216) }
-        ensures grows { D.tells → IsOn self.old (D.log disk.old) → OnOk result (Grows self.old self.new (D.log disk.old) (D.log disk.new) []) }
+        ensures list { D.tells → OnOk result (Holds self.old self.new (D.log disk.old) (D.log disk.new) (D.may_log disk.old) (D.may_log disk.new)) × OnErr result (Stays self.old self.new (D.log disk.old) (D.log disk.new) (D.may_log disk.old) (D.may_log disk.new)) }
         ensures room { OnOk result ((self.new.used + size + 44 ≤ 65536) × (end_of self.new ≡ end_of self.old)) }
         ensures same { OnErr result (Same self.old self.new) }
+        ensures crash { D.tells → Crashes D.moment D.left_since D.may_log D.may_hold (forced_of self.old) disk.old disk.new (D.may_hold disk.old) }
         ensures cause { HasCause (D.fault_count disk.old) (D.fault_count disk.new) result }
     {
         if self.needs_force(size) {
@@ -85,8 +90,10 @@ impl LogFile {
         requires size_is { (size ≡ size_of (record_of r.now)) × (size ≤ 20000) }
         requires room { self.old.forced + self.old.used + size + 44 ≤ 16777216 }
         ensures place { IfOk result (λ at. at ≡ end_of self.old) }
-        ensures grows { D.tells → IsOn self.old (D.log disk.old) → OnOk result (Grows self.old self.new (D.log disk.old) (D.log disk.new) (stored_record (end_of self.old) (record_of r.now))) }
+        ensures list { D.tells → follower (body_of r.now.body) ≡ None → OnOk result (Gains (record_of r.now ∷ []) self.old self.new (D.log disk.old) (D.log disk.new) (D.may_log disk.old) (D.may_log disk.new)) }
+        ensures stays { D.tells → OnErr result (Stays self.old self.new (D.log disk.old) (D.log disk.new) (D.may_log disk.old) (D.may_log disk.new)) }
         ensures same { OnErr result (Same self.old self.new) }
+        ensures crash { D.tells → Crashes D.moment D.left_since D.may_log D.may_hold (forced_of self.old) disk.old disk.new (D.may_hold disk.old) }
         ensures cause { HasCause (D.fault_count disk.old) (D.fault_count disk.new) result }
     {
         match self.make_room(disk, size) {

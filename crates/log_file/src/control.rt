@@ -2,8 +2,9 @@
 
 ghost use Rattle.std.specs.Prelude.{◌≡◌, Some, OnOk};
 ghost use Rattle.device.specs.Counts.{HasCause};
-ghost use Rattle.device.specs.Disk.{NewPage, NoNewLog, OnlyPages, SameLog};
+ghost use Rattle.device.specs.Disk.{IsImage, LeavesOnly, NewPage, NoNewLog, OnlyPages, SameLog};
 ghost use Rattle.log_file.specs.Control.{blank, control_numbers, control_page};
+ghost use Rattle.log_file.specs.Crash.{OrControl};
 
 use dby_bytes::{put_u32, put_u64};
 use dby_types::number::Lsn;
@@ -41,6 +42,7 @@ pub fn raise<D: Disk>(disk: &mut D, next: u32, point: Lsn) -> Result<(), Failed>
     ensures raised { D.tells → OnOk result ((D.page disk.new 0 0 ≡ Some (control_page next point)) × OnlyPages (D.page disk.new) (D.may_hold disk.new)) }
     ensures log { D.tells → OnOk result (SameLog (D.log disk.old) (D.log disk.new)) }
     ensures crash { D.tells → NewPage 0 0 (Some (control_page next point)) (D.may_hold disk.old) (D.may_hold disk.new) × NoNewLog (D.may_log disk.old) (D.may_log disk.new) }
+    ensures moments { D.tells → LeavesOnly D.moment D.left_since disk.old disk.new (IsImage (OrControl next point (D.may_hold disk.old)) (D.may_log disk.old)) }
     ensures cause { HasCause (D.fault_count disk.old) (D.fault_count disk.new) result }
 {
     let mut page = [0; 4096];

@@ -9,4 +9,6 @@ mod change;
 mod control;
 pub mod file;
 pub mod force;
+mod laws;
+mod places;
 pub mod read;

@@ -1,3 +1,4 @@
+pub mod OneLemmas
 pub mod FieldLemmas
 pub mod ChangeLemmas
 pub mod ByteLemmas

@@ -38,7 +38,7 @@ unfolding sum_of
 sum_small m = number_at-lt 8 (digest_of m) 0 (digest_is_bytes m)
 
 -- a record's fields, its sum first
-abbrev all_fields : Lsn → LogRecord → List Field
+abbrev pub all_fields : Lsn → LogRecord → List Field
 all_fields at r = number 8 (sum_of (field_bytes (summed_fields at r))) ∷ summed_fields at r
 
 -- the fields before the body take 40 bytes
@@ -52,7 +52,7 @@ pub length-stored : (at : Lsn) (r : LogRecord) → length (stored_record at r) �
 length-stored at r = length-field_bytes (all_fields at r) ∙ all-len at r
 
 -- a record's fields stand where the bytes begin with it
-all_fields_stand : (at : Lsn) (b : List ℕ) (r : LogRecord) (rest : List ℕ) → Begins at b r rest → Stand (all_fields at r) 0 b
+pub all_fields_stand : (at : Lsn) (b : List ℕ) (r : LogRecord) (rest : List ℕ) → Begins at b r rest → Stand (all_fields at r) 0 b
 all_fields_stand at b r rest h = stand (all_fields at r) 0 b rest (sum_small (field_bytes (summed_fields at r)), h.record_is.fields) h.bytes
 
 -- the bytes behind the sum

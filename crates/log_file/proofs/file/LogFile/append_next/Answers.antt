@@ -1,8 +1,10 @@
-use Rattle.std.proofs.Common.{◌∙◌, sym, subst}
+use Rattle.std.proofs.Common.{◌∙◌, ◌+◌, ℕ, ap, sym, subst, arith}
 use Rattle.dby_types.specs.declared.number.Lsn.{Lsn}
 use Rattle.log_records.specs.Rules.{IsLegal}
 use Rattle.log_records.specs.View.{record_of}
-use Rattle.log_file.proofs.Growing.{next_end, put_moves}
+use Rattle.log_file.specs.Tail.{next_of}
+use Rattle.log_file.proofs.Growing.{next_end}
+use Rattle.log_file.proofs.Steps.{gains_more, puts}
 use Rattle.log_file.proofs.file.LogFile.append_next.Goals as goal
 
 pub put-requires-clause-legal : goal.put-requires-clause-legal
@@ -11,8 +13,8 @@ put-requires-clause-legal g c = subst (λ (at : Lsn). IsLegal at (record_of c.ar
 pub returns-in-Ok-clause-place : goal.returns-in-Ok-clause-place
 returns-in-Ok-clause-place g c = c.put.ensures.place ∙ next_end c.args.self.now c.change.new.self c.in-Ok.ensures.next.0 c.in-Ok.ensures.next.1
 
-pub returns-in-Ok-clause-moves : goal.returns-in-Ok-clause-moves
-returns-in-Ok-clause-moves g c = λ told on. (
-  put_moves c.args.self.now c.change.new.self c.put.new.self _ _ _ (c.in-Ok.ensures.left told on).0 c.in-Ok.ensures.next.0 c.in-Ok.ensures.next.1 c.put.ensures.same.0 c.put.ensures.same.1 c.put.ensures.same.2 c.put.ensures.pending,
-  (c.in-Ok.ensures.left told on).1,
-)
+pub returns-in-Ok-clause-list : goal.returns-in-Ok-clause-list
+returns-in-Ok-clause-list g c told plain =
+    gains_more c.args.self.now c.change.new.self c.put.new.self _ _ _ _ (next_of (c.args.self.now.segment + 1)) (record_of c.args.r.now) (c.in-Ok.ensures.list told)
+    (puts c.change.new.self c.put.new.self _ _ (record_of c.args.r.now) c.put.ensures.record plain (omega (arith, c.in-Ok.ensures.next.0.forced_is, c.in-Ok.ensures.next.1, c.requires.size_is)) c.put.ensures.same.0 c.put.ensures.same.1
+    (c.put.ensures.used ∙ ap (λ (n : ℕ). c.change.new.self.used + n) c.requires.size_is.0) c.put.ensures.pending)
