@@ -1,0 +1,13 @@
+pub mod LookupLemmas
+pub mod StableLemmas
+pub mod QueueLemmas
+pub mod MoveLemmas
+pub mod EventLemmas
+pub mod StepLemmas
+pub mod EndLemmas
+pub mod TellLemmas
+pub mod BeginLemmas
+pub mod AskLemmas
+pub mod RoomLemmas
+pub mod ReleaseLemmas
+pub mod CountLemmas

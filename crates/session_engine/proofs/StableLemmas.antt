@@ -1,0 +1,156 @@
+-- A connection's own part is stable under the steps of the others: once for all phases.
+use Rattle.std.proofs.Common.{◌≡◌, ◌≢◌, ℕ, ◌<◌, ◌≤◌, List, [], ◌∷◌, length, true, sym, ◌∙◌, ap, subst, arith, inl, inr, None}
+use Rattle.std.specs.Prelude.{map}
+use Rattle.dby_types.specs.declared.number.RowId.{RowId}
+use Rattle.lock_modes.specs.declared.mode.Mode.{Mode}
+use Rattle.lock_modes.specs.declared.name.LockName.{LockName}
+use Rattle.lock_modes.specs.declared.name.LockName.TheVariants.{Dictionary}
+use Rattle.lock_modes.specs.Lock.{Lock}
+use Rattle.table_model.specs.Tables.{Made, Each, laid_over}
+use Rattle.store_api.specs.View.{View, changes_in}
+use Rattle.journal_model.specs.declared.journal.Refusal.{Refusal}
+use Rattle.sql_commands.specs.declared.command.Command.{Command}
+use Rattle.journal_model.specs.Meaning.{is_long}
+use Rattle.session_model.specs.Orders.{order_of}
+use Rattle.session_model.specs.World.{World, Txn, Conn, seen}
+use Rattle.session_model.specs.Legal.{HasEvidence, dictionary_mode}
+use Rattle.session_model.specs.Places.{Shared, Others, ReadsCatalog, locks_of, is_catalog}
+use Rattle.session_model.proofs.PlaceLemmas.{laid_over_same}
+use Rattle.session_model.proofs.FitLemmas.{evidence_same}
+use Rattle.session_engine.specs.declared.session.Phase.{Phase}
+use Rattle.session_engine.specs.declared.session.Phase.TheVariants.{Idle, Resting, Asking, Preparing, Claiming, Working, Refusing, Committing, Forcing, Acknowledging, Leaving}
+use Rattle.session_engine.specs.declared.session.Plan.{Plan}
+use Rattle.session_engine.specs.declared.session.Plan.TheVariants as plan
+use Rattle.session_engine.specs.declared.session.Session.{Session}
+use Rattle.session_engine.specs.State.{IsStage, Reflects, Stands, HaveSlots, AreUsers, Busy, IsPromised, Runs, Asks, Prepares, Commands, IsShown, Refuses, Works, RefusesFor, PhaseHolds, SessionHolds, LockKept, Beside, txn_of}
+
+each_both : {X : Type 0} → (P R Q : X → Type 0) → ((x : X) → P x → R x → Q x) → (xs : List X) → Each P xs → Each R xs → Each Q xs
+each_both P R Q f [] h k = tt
+each_both P R Q f (x ∷ xs) h k = (f x h.0 k.0, each_both P R Q f xs h.1 k.1)
+
+reads_kept : (t : ℕ) (w : World) (l : Lock) (w' : World) (l' : Lock) → Others t w (locks_of l.grants) w' (locks_of l'.grants) → ReadsCatalog (locks_of l.grants) t → ReadsCatalog (locks_of l'.grants) t
+reads_kept t w l w' l' o h = λ table rid c. o.reads table rid (h table rid c)
+
+-- what a statement sees of the catalog stays, for who relies on it
+pub catalog_kept : (t : ℕ) (w : World) (l : Lock) (w' : World) (l' : Lock) → Others t w (locks_of l.grants) w' (locks_of l'.grants) → ReadsCatalog (locks_of l.grants) t
+    → (table : ℕ) (rid : RowId) → is_catalog table ≡ true → seen w t table rid ≡ seen w' t table rid
+catalog_kept t w l w' l' o h table rid c =
+    laid_over_same (w.txns t).begun w.committed w'.committed table rid (sym (o.committed table rid (h table rid c))) ∙ ap (λ (x : Txn). laid_over x.begun w'.committed table rid) (sym o.txn)
+
+runs_kept : (w w' : World) (s : Session) → w'.txns (txn_of s) ≡ w.txns (txn_of s) → w.count ≤ w'.count → Runs w s → Runs w' s
+runs_kept w w' s e more h = record {
+  first = ap (λ (x : Txn). x.first) e ∙ h.first;
+  since = (let lt : (w.txns (txn_of s)).started < w.count = h.since in let same : (w'.txns (txn_of s)).started ≡ (w.txns (txn_of s)).started = ap (λ (x : Txn). x.started) e in omega arith);
+  short = ap (λ (x : Txn). is_long x.text) e ∙ h.short;
+}
+
+promised_kept : (l l' : Lock) (s : Session) (n : LockName) (m : Mode) → LockKept s.txn l l' → IsPromised l s n m → IsPromised l' s n m
+promised_kept l l' s n m k h = elim h [ inl waits ↦ k.some n m waits | inr has ↦ inr (k.has n m has) ]
+
+asks_kept : (w : World) (l : Lock) (v : View) (w' : World) (l' : Lock) (v' : View) (c : ℕ) (s : Session) → Beside s.txn c w l v w' l' v' → w.count ≤ w'.count → Asks w l v s → Asks w' l' v' s
+asks_kept w l v w' l' v' c s b more h = let e = b.others.txn in record {
+  runs = runs_kept w w' s e more h.runs;
+  marked = ap (λ i. length (changes_in i)) b.changes ∙ h.marked;
+  unchanged = subst (λ (x : Txn). x.changes ≡ x.begun) (sym e) h.unchanged;
+  order = h.order ∙ ap (λ (x : Txn). order_of x.text) (sym e);
+  promised = λ q. promised_kept l l' s Dictionary (dictionary_mode s.order) b.locks (h.promised q);
+}
+
+prepares_kept : (w : World) (l : Lock) (v : View) (w' : World) (l' : Lock) (v' : View) (c : ℕ) (s : Session) → Beside s.txn c w l v w' l' v' → w.count ≤ w'.count → Prepares w l v s → Prepares w' l' v' s
+prepares_kept w l v w' l' v' c s b more h = let e = b.others.txn in record {
+  runs = runs_kept w w' s e more h.runs;
+  marked = ap (λ i. length (changes_in i)) b.changes ∙ h.marked;
+  unchanged = subst (λ (x : Txn). x.changes ≡ x.begun) (sym e) h.unchanged;
+  order = h.order ∙ ap (λ (x : Txn). order_of x.text) (sym e);
+  catalog = reads_kept (txn_of s) w l w' l' b.others h.catalog;
+}
+
+commands_kept : (w : World) (l : Lock) (v : View) (w' : World) (l' : Lock) (v' : View) (c : ℕ) (s : Session) (d : Command) → Beside s.txn c w l v w' l' v' → w.count ≤ w'.count → Commands w l v s d → Commands w' l' v' s d
+commands_kept w l v w' l' v' c s d b more h = let e = b.others.txn in record {
+  runs = runs_kept w w' s e more h.runs;
+  marked = ap (λ i. length (changes_in i)) b.changes ∙ h.marked;
+  unchanged = subst (λ (x : Txn). x.changes ≡ x.begun) (sym e) h.unchanged;
+  order = ap (λ (x : Txn). order_of x.text) e ∙ h.order;
+  built = h.built;
+  catalog = reads_kept (txn_of s) w l w' l' b.others h.catalog;
+}
+
+shown_kept : (w : World) (l : Lock) (w' : World) (l' : Lock) (s : Session) (why : Refusal) → Others (txn_of s) w (locks_of l.grants) w' (locks_of l'.grants) → IsShown w l s why → IsShown w' l' s why
+shown_kept w l w' l' s why o h = elim h [
+  | inl free ↦ inl ((λ tables. subst (λ (x : Txn). HasEvidence x.text tables why) (sym o.txn) (free.0 tables)), free.1)
+  | inr rests ↦ inr (
+    reads_kept (txn_of s) w l w' l' o rests.0,
+    subst (λ (x : Txn). HasEvidence x.text (seen w' (txn_of s)) why) (sym o.txn)
+        (evidence_same (w.txns (txn_of s)).text (seen w (txn_of s)) (seen w' (txn_of s)) (catalog_kept (txn_of s) w l w' l' o rests.0) why rests.1),
+  )
+]
+
+refuses_kept : (w : World) (l : Lock) (v : View) (w' : World) (l' : Lock) (v' : View) (c : ℕ) (s : Session) (why : Refusal) → Beside s.txn c w l v w' l' v' → Refuses w l v s why → Refuses w' l' v' s why
+refuses_kept w l v w' l' v' c s why b h = record {
+  first = ap (λ (x : Txn). x.first) b.others.txn ∙ h.first;
+  shown = shown_kept w l w' l' s why b.others h.shown;
+  stands = subst (λ (x : Txn). Stands s.mark (changes_in (v'.content.changes (txn_of s))) x) (sym b.others.txn) (subst (λ i. Stands s.mark (changes_in i) (w.txns (txn_of s))) (sym b.changes) h.stands);
+}
+
+works_kept : (p : Plan) (w : World) (l : Lock) (v : View) (w' : World) (l' : Lock) (v' : View) (c : ℕ) (s : Session) → Beside s.txn c w l v w' l' v' → w.count ≤ w'.count → Works w l v s p → Works w' l' v' s p
+works_kept plan.Nothing w l v w' l' v' c s b more h = h
+works_kept (plan.Command d) w l v w' l' v' c s b more h = commands_kept w l v w' l' v' c s d b more h
+works_kept (plan.Select scan) w l v w' l' v' c s b more h = h
+works_kept (plan.Insert fill) w l v w' l' v' c s b more h = h
+works_kept (plan.Refuse why) w l v w' l' v' c s b more h = h
+
+refusing_kept : (p : Plan) (w : World) (l : Lock) (v : View) (w' : World) (l' : Lock) (v' : View) (c : ℕ) (s : Session) → Beside s.txn c w l v w' l' v' → RefusesFor w l v s p → RefusesFor w' l' v' s p
+refusing_kept plan.Nothing w l v w' l' v' c s b h = h
+refusing_kept (plan.Command d) w l v w' l' v' c s b h = h
+refusing_kept (plan.Select scan) w l v w' l' v' c s b h = h
+refusing_kept (plan.Insert fill) w l v w' l' v' c s b h = h
+refusing_kept (plan.Refuse why) w l v w' l' v' c s b h = refuses_kept w l v w' l' v' c s why b h
+
+-- the places that a transaction changed keep their rows, since it relies on them and on the catalog
+slots_kept : (w : World) (l : Lock) (v : View) (w' : World) (l' : Lock) (v' : View) (c : ℕ) (s : Session) → Shared w (locks_of l.grants) → Beside s.txn c w l v w' l' v'
+    → HaveSlots v (w.txns (txn_of s)).changes → HaveSlots v' (w.txns (txn_of s)).changes
+slots_kept w l v w' l' v' c s shared b h = elim (shared.txns (txn_of s)).lawful [
+  | inl none ↦ subst (HaveSlots v') (sym none) tt
+  | inr catalog ↦ each_both (λ (m : Made). (locks_of l.grants).writes (txn_of s) m.change.table m.change.rid ≡ true) (λ (m : Made). v.content.heaps m.change.table m.change.rid ≢ None) (λ (m : Made). v'.content.heaps m.change.table m.change.rid ≢ None)
+      (λ m x there none. there (sym (b.heaps catalog m.change.table m.change.rid (shared.fits.writer_reads (txn_of s) m.change.table m.change.rid x)) ∙ none))
+      (w.txns (txn_of s)).changes (shared.txns (txn_of s)).owned h
+]
+
+busy_kept : (w : World) (l : Lock) (v : View) (w' : World) (l' : Lock) (v' : View) (last last' c : ℕ) (s : Session) → Shared w (locks_of l.grants) → w'.conns c ≡ w.conns c → Beside s.txn c w l v w' l' v' → last ≤ last' → Busy w l v last c s → Busy w' l' v' last' c s
+busy_kept w l v w' l' v' last last' c s shared k b more h = let e = b.others.txn in record {
+  stage = subst (λ (x : Txn). IsStage s.phase x.stage) (sym e) h.stage;
+  conn = ap (λ (x : Txn). x.conn) e ∙ h.conn;
+  mine = ap (λ (x : Conn). x.txn) k ∙ h.mine;
+  positive = h.positive;
+  numbered = (let lt : txn_of s ≤ last = h.numbered in omega arith);
+  numbers = ap (λ (x : Txn). map (λ m. m.number) x.changes) e ∙ h.numbers;
+  reflects = subst (λ (x : Txn). Reflects s.opened (v'.content.changes (txn_of s)) x.changes) (sym e) (subst (λ i. Reflects s.opened i (w.txns (txn_of s)).changes) (sym b.changes) h.reflects);
+  slots = subst (λ (x : Txn). HaveSlots v' x.changes) (sym e) (slots_kept w l v w' l' v' c s shared b h.slots);
+  users = subst (λ (x : Txn). AreUsers x.changes) (sym e) h.users;
+  idle = λ q. b.locks.none (h.idle q);
+}
+
+phase_kept : (p : Phase) (w : World) (l : Lock) (v : View) (w' : World) (l' : Lock) (v' : View) (last last' c : ℕ) (s : Session) → Shared w (locks_of l.grants) → w'.conns c ≡ w.conns c
+    → (Busy w l v last c s → Beside s.txn c w l v w' l' v') → last ≤ last' → w.count ≤ w'.count → PhaseHolds p w l v last c s → PhaseHolds p w' l' v' last' c s
+phase_kept Idle w l v w' l' v' last last' c s shared k b more on h = (h.0, ap (λ (x : Conn). x.txn) k ∙ h.1, h.2, h.3, h.4)
+phase_kept Resting w l v w' l' v' last last' c s shared k b more on h = (busy_kept w l v w' l' v' last last' c s shared k (b h.0) more h.0, h.1, h.2)
+phase_kept Asking w l v w' l' v' last last' c s shared k b more on h = (busy_kept w l v w' l' v' last last' c s shared k (b h.0) more h.0, h.1, asks_kept w l v w' l' v' c s (b h.0) on h.2)
+phase_kept Preparing w l v w' l' v' last last' c s shared k b more on h = (busy_kept w l v w' l' v' last last' c s shared k (b h.0) more h.0, h.1, h.2, prepares_kept w l v w' l' v' c s (b h.0) on h.3)
+phase_kept Claiming w l v w' l' v' last last' c s shared k b more on h = (busy_kept w l v w' l' v' last last' c s shared k (b h.0) more h.0, h.1, h.2)
+phase_kept Working w l v w' l' v' last last' c s shared k b more on h = (busy_kept w l v w' l' v' last last' c s shared k (b h.0) more h.0, h.1, h.2, works_kept s.plan w l v w' l' v' c s (b h.0) on h.3)
+phase_kept Refusing w l v w' l' v' last last' c s shared k b more on h = (busy_kept w l v w' l' v' last last' c s shared k (b h.0) more h.0, h.1, h.2, refusing_kept s.plan w l v w' l' v' c s (b h.0) h.3)
+phase_kept Committing w l v w' l' v' last last' c s shared k b more on h = (busy_kept w l v w' l' v' last last' c s shared k (b h.0) more h.0, h.1, h.2)
+phase_kept Forcing w l v w' l' v' last last' c s shared k b more on h = (busy_kept w l v w' l' v' last last' c s shared k (b h.0) more h.0, h.1, h.2)
+phase_kept Acknowledging w l v w' l' v' last last' c s shared k b more on h = (busy_kept w l v w' l' v' last last' c s shared k (b h.0) more h.0, h.1, h.2)
+phase_kept Leaving w l v w' l' v' last last' c s shared k b more on h = (busy_kept w l v w' l' v' last last' c s shared k (b h.0) more h.0, h.1, λ live. ap (λ (x : Txn). x.stage) (b h.0).others.txn ∙ h.2 live)
+
+pub session_kept : (w : World) (l : Lock) (v : View) (w' : World) (l' : Lock) (v' : View) (last last' c : ℕ) (s : Session) → Shared w (locks_of l.grants) → w'.conns c ≡ w.conns c
+    → (Busy w l v last c s → Beside s.txn c w l v w' l' v') → last ≤ last' → w.count ≤ w'.count → SessionHolds w l v last c s → SessionHolds w' l' v' last' c s
+session_kept w l v w' l' v' last last' c s shared k b more on h = record {
+  begun = ap (λ (x : Conn). x.begun) k ∙ h.begun;
+  level = ap (λ (x : Conn). x.level) k ∙ h.level;
+  automatic = ap (λ (x : Conn). x.automatic) k ∙ h.automatic;
+  closed = λ on. ap (λ (x : Conn). x.closed) k ∙ h.closed on;
+  spans = h.spans;
+  phase = phase_kept s.phase w l v w' l' v' last last' c s shared k b more on h.phase;
+}

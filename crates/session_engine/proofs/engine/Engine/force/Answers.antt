@@ -1,0 +1,37 @@
+use Rattle.std.proofs.Common.{◌≡◌, ◌<◌, length, ◌∙◌, ap, arith}
+use Rattle.lock_manager.specs.Table.{lock}
+use Rattle.session_engine.specs.declared.session.Session.{Session}
+use Rattle.session_engine.specs.State.{ends_in, opens}
+use Rattle.session_engine.specs.Engine.{state}
+use Rattle.session_engine.proofs.RoomLemmas.{room_after}
+use Rattle.session_engine.proofs.StepLemmas.{forced, still_store, stored_after, same_session}
+use Rattle.session_engine.proofs.engine.Engine.force.Goals as goal
+
+pub invariant_of-self : goal.invariant_of-self
+invariant_of-self g c =
+    let lt : c.args.c < length c.self.inside.sessions.items = omega arith in
+    let r = c.index_mut-session.result.now in
+    let at = c.index_mut-session.ensures.value in
+    let is = ap (λ (s : Session). s.phase) (same_session c.self.inside.sessions.items c.args.c r c.index.result.now lt at c.index.ensures) ∙ c.in-Forcing.is in
+    let one : ends_in r.phase ≡ 1 = ap ends_in is in
+    let open_one : opens r.phase ≡ 1 = ap opens is in
+    record {
+      holds = forced (state c.self.inside.entries c.self.inside.events c.self.inside.locks c.self.inside.sessions.items (g.S.RowStore.view c.self.inside.store) c.self.inside.tables.entries)
+          c.self.inside.last c.args.c r (g.S.RowStore.view c.force-answer.new.self) lt at is
+          (stored_after _ _ _ _ c.force-answer.result c.force-answer.ensures.ok c.force-answer.ensures.err)
+          c.force-answer.ensures.frame.everyone c.force-answer.ensures.frame.limit_same c.self.invariant.holds;
+      room = room_after c.self.inside.entries c.self.inside.entries c.self.inside.events c.self.inside.events c.self.inside.sessions.items (lock c.self.inside.locks) (lock c.self.inside.locks)
+          c.self.inside.owed c.self.inside.owed_events c.self.inside.owed c.self.inside.owed_events c.args.c r _ c.self.invariant.room lt at
+          (omega (arith, one)) (omega (arith, open_one)) c.self.invariant.room.entries_fit c.self.invariant.room.events_fit;
+      woken = c.self.invariant.woken;
+    }
+
+pub invariant_of-self-else-is_ok : goal.invariant_of-self-else-is_ok
+invariant_of-self-else-is_ok g c = record {
+  holds = still_store (state c.self.inside.entries c.self.inside.events c.self.inside.locks c.self.inside.sessions.items (g.S.RowStore.view c.self.inside.store) c.self.inside.tables.entries)
+      c.self.inside.last (g.S.RowStore.view c.force-answer.new.self)
+      (stored_after _ _ _ _ c.force-answer.result c.force-answer.ensures.ok c.force-answer.ensures.err)
+      c.force-answer.ensures.frame.everyone c.force-answer.ensures.frame.limit_same c.self.invariant.holds;
+  room = c.self.invariant.room;
+  woken = c.self.invariant.woken;
+}

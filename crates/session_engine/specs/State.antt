@@ -1,0 +1,290 @@
+-- What holds of an engine between any two of its steps.
+use Rattle.std.specs.Prelude.{◌≡◌, ◌≢◌, ◌⊎◌, ℕ, ◌+◌, ◌<◌, ◌≤◌, Bool, true, false, List, [], ◌∷◌, ◌++◌, length, map, reverse, Vec, vec_len, vec_capacity, slice_index_or, Option, Some, None, All, if◌then◌else◌}
+use Rattle.dby_types.specs.declared.number.RowId.{RowId}
+use Rattle.dby_types.specs.declared.number.TxnNo.{TxnNo}
+use Rattle.lock_modes.specs.declared.entry.Request.{Request}
+use Rattle.lock_modes.specs.declared.event.LockEvent.{LockEvent}
+use Rattle.lock_modes.specs.declared.mode.Mode.{Mode}
+use Rattle.lock_modes.specs.declared.name.LockName.{LockName}
+use Rattle.lock_modes.specs.declared.name.LockName.TheVariants.{Dictionary}
+use Rattle.lock_modes.specs.Apart.{IsApart}
+use Rattle.lock_modes.specs.Lock.{Lock, lock_of, queue, request}
+use Rattle.lock_modes.specs.Modes.{has_mode}
+use Rattle.lock_modes.specs.Names.{same_txn}
+use Rattle.lock_modes.specs.Waits.{waiting}
+use Rattle.table_model.specs.Tables.{Tables, Made, Each, no_tables}
+use Rattle.store_api.specs.declared.slot.Item.{Item}
+use Rattle.store_api.specs.declared.slot.Item.TheVariants.{Changed, Created, Discarded}
+use Rattle.store_api.specs.View.{View, live, changes_in}
+use Rattle.journal_model.specs.declared.journal.Entry.{Entry}
+use Rattle.sql_lexer.specs.Splitting.{spans_of}
+use Rattle.session_model.specs.declared.journal.Locked.{Locked}
+use Rattle.session_model.specs.Orders.{order_of, is_built}
+use Rattle.session_model.specs.World.{World, Txn, Stage, denied, seen, running, resting, committing, leaving, settled, opening, replay, no_txn, is_untold, is_returnable}
+use Rattle.session_model.specs.Legal.{IsLegal, Wants, HasEvidence, is_lasting, dictionary_mode}
+use Rattle.session_model.specs.Places.{Shared, Others, ReadsCatalog, locks_of, is_catalog}
+use Rattle.session_engine.specs.declared.session.Phase.{Phase}
+use Rattle.session_engine.specs.declared.session.Phase.TheVariants.{Idle, Resting, Asking, Preparing, Claiming, Working, Refusing, Committing, Forcing, Acknowledging, Leaving}
+use Rattle.session_engine.specs.declared.session.Session.{Session}
+use Rattle.session_engine.specs.declared.session.Plan.{Plan}
+use Rattle.session_engine.specs.declared.session.Plan.TheVariants as plan
+use Rattle.sql_commands.specs.declared.command.Command.{Command}
+use Rattle.session_model.specs.declared.order.Order.TheVariants as ordered
+use Rattle.journal_model.specs.declared.journal.Refusal.{Refusal}
+use Rattle.journal_model.specs.Meaning.{is_long}
+use Rattle.session_engine.specs.Dictionary.{Named, Among, IsDictionary}
+
+-- ALL THAT THE ENGINE KEEPS: entries, lock events, the lock table's state, its connections, what its store is seen with, its dictionary
+pub record State : Type 0 where
+  pub es : List Entry
+  pub ls : List Locked
+  pub lock : Lock
+  pub ss : List Session
+  pub view : View
+  pub named : List Named
+
+abbrev pub scripts_of : List Session → List (List ℕ)
+scripts_of ss = map (λ s. s.script) ss
+
+abbrev pub events_of : List Locked → List LockEvent
+events_of ls = map (λ l. l.event) ls
+
+abbrev pub world_of : List Entry → World
+world_of es = replay (opening no_tables) es
+
+abbrev pub txn_of : Session → ℕ
+txn_of s = s.txn.0
+
+-- what a connection's phase says of its transaction
+abbrev pub IsStage : Phase → Stage → Type 0
+IsStage Idle x = ⊥
+IsStage Resting x = x ≡ resting
+IsStage Asking x = x ≡ running
+IsStage Preparing x = x ≡ running
+IsStage Claiming x = x ≡ running
+IsStage Working x = x ≡ running
+IsStage Refusing x = is_untold x ≡ true
+IsStage Committing x = x ≡ committing
+IsStage Forcing x = x ≡ settled
+IsStage Acknowledging x = x ≡ settled
+IsStage Leaving x = is_returnable x ≡ true
+
+-- THE STORE'S LIST of a transaction's changes is the journal's
+abbrev pub Mirrors : List Item → List Made → Type 0
+Mirrors [] [] = Unit {0}
+Mirrors [] (m ∷ ms) = ⊥
+Mirrors (Created c ∷ items) ms = ⊥
+Mirrors (Changed table rid before ∷ items) [] = ⊥
+Mirrors (Changed table rid before ∷ items) (m ∷ ms) = (m.change.table ≡ table) × (m.change.rid ≡ rid) × (live before ≡ m.change.old) × Mirrors items ms
+Mirrors (Discarded c ∷ items) ms = ⊥
+
+-- a transaction that is open in the store, or one without changes that isn't
+abbrev pub Reflects : Bool → Option (List Item) → List Made → Type 0
+Reflects true items ms = (list : List Item) × (items ≡ Some list) × Mirrors list ms
+Reflects false items ms = (items ≡ None) × (ms ≡ [])
+
+-- of a statement that runs: its own items are the newest, behind those that stood when it began
+pub record Stands (mark : ℕ) (items : List Item) (x : Txn) : Type 0 where
+  pub own_items : List Item
+  pub base : List Item
+  pub own : List Made
+  pub items_are : items ≡ own_items ++ base
+  pub length_is : length base ≡ mark
+  pub changes_are : x.changes ≡ own ++ x.begun
+  pub mirrors_own : Mirrors own_items own
+  pub mirrors_base : Mirrors base x.begun
+
+-- the place of each change has a row, live or marked
+abbrev pub HaveSlots : View → List Made → Type 0
+HaveSlots v ms = Each (λ m. v.content.heaps m.change.table m.change.rid ≢ None) ms
+
+-- no change is of the catalog: no statement of the engine makes or drops a table yet
+abbrev pub AreUsers : List Made → Type 0
+AreUsers ms = Each (λ m. is_catalog m.change.table ≡ false) ms
+
+-- THE TRANSACTION THAT A CONNECTION HAS
+pub record Busy (w : World) (l : Lock) (v : View) (last c : ℕ) (s : Session) : Type 0 where
+  pub stage : IsStage s.phase (w.txns (txn_of s)).stage
+  pub conn : (w.txns (txn_of s)).conn ≡ c
+  pub mine : (w.conns c).txn ≡ Some (txn_of s)
+  pub positive : 1 ≤ txn_of s
+  pub numbered : txn_of s ≤ last
+  pub numbers : map (λ m. m.number) (w.txns (txn_of s)).changes ≡ reverse s.made.items
+  pub reflects : Reflects s.opened (v.content.changes (txn_of s)) (w.txns (txn_of s)).changes
+  pub slots : HaveSlots v (w.txns (txn_of s)).changes
+  pub users : AreUsers (w.txns (txn_of s)).changes
+  pub idle : s.queued ≡ false → waiting l s.txn ≡ None
+
+-- A REQUEST OF ITS OWN: it waits, or was granted since
+abbrev pub IsPromised : Lock → Session → LockName → Mode → Type 0
+IsPromised l s name mode = (waiting l s.txn ≡ Some (request s.txn name mode)) ⊎ (has_mode (l.grants s.txn name) mode ≡ true)
+
+-- a running statement
+pub record Runs (w : World) (s : Session) : Type 0 where
+  pub first : (w.txns (txn_of s)).first ≡ s.first
+  pub since : (w.txns (txn_of s)).started < w.count
+  pub short : is_long (w.txns (txn_of s)).text ≡ false
+
+-- the changes are those of before it
+abbrev pub IsUnchanged : World → Session → Type 0
+IsUnchanged w s = (w.txns (txn_of s)).changes ≡ (w.txns (txn_of s)).begun
+
+-- the items that stand are those of before it
+abbrev pub IsMarked : View → Session → Type 0
+IsMarked v s = length (changes_in (v.content.changes (txn_of s))) ≡ s.mark
+
+-- it asks for the dictionary
+pub record Asks (w : World) (l : Lock) (v : View) (s : Session) : Type 0 where
+  pub runs : Runs w s
+  pub marked : IsMarked v s
+  pub unchanged : IsUnchanged w s
+  pub order : s.order ≡ order_of (w.txns (txn_of s)).text
+  pub promised : s.queued ≡ true → IsPromised l s Dictionary (dictionary_mode s.order)
+
+-- it has the dictionary, and is to be bound
+pub record Prepares (w : World) (l : Lock) (v : View) (s : Session) : Type 0 where
+  pub runs : Runs w s
+  pub marked : IsMarked v s
+  pub unchanged : IsUnchanged w s
+  pub order : s.order ≡ order_of (w.txns (txn_of s)).text
+  pub catalog : ReadsCatalog (locks_of l.grants) (txn_of s)
+
+-- a command: nothing is changed by it
+pub record Commands (w : World) (l : Lock) (v : View) (s : Session) (c : Command) : Type 0 where
+  pub runs : Runs w s
+  pub marked : IsMarked v s
+  pub unchanged : IsUnchanged w s
+  pub order : order_of (w.txns (txn_of s)).text ≡ Some (ordered.Command c)
+  pub built : is_built c ≡ true
+  pub catalog : ReadsCatalog (locks_of l.grants) (txn_of s)
+
+-- a refusal with its evidence: it needs no table, or the catalog alone
+abbrev pub IsShown : World → Lock → Session → Refusal → Type 0
+IsShown w l s why =
+    (((tables : Tables) → HasEvidence (w.txns (txn_of s)).text tables why) × (is_lasting (denied why) ≡ false))
+    ⊎ (ReadsCatalog (locks_of l.grants) (txn_of s) × HasEvidence (w.txns (txn_of s)).text (seen w (txn_of s)) why)
+
+-- it is refused: what it changed is taken back
+pub record Refuses (w : World) (l : Lock) (v : View) (s : Session) (why : Refusal) : Type 0 where
+  pub first : (w.txns (txn_of s)).first ≡ s.first
+  pub shown : IsShown w l s why
+  pub stands : Stands s.mark (changes_in (v.content.changes (txn_of s))) (w.txns (txn_of s))
+
+-- what it was bound to do
+abbrev pub Works : World → Lock → View → Session → Plan → Type 0
+Works w l v s (plan.Command c) = Commands w l v s c
+Works w l v s _ = ⊥
+
+abbrev pub RefusesFor : World → Lock → View → Session → Plan → Type 0
+RefusesFor w l v s (plan.Refuse why) = Refuses w l v s why
+RefusesFor w l v s _ = ⊥
+
+-- no request of it waits
+abbrev pub WaitsNot : Session → Type 0
+WaitsNot s = s.queued ≡ false
+
+abbrev pub IsOpened : Session → Type 0
+IsOpened s = s.opened ≡ true
+
+abbrev pub PhaseHolds : Phase → World → Lock → View → ℕ → ℕ → Session → Type 0
+PhaseHolds Idle w l v last c s = WaitsNot s × ((w.conns c).txn ≡ None) × (txn_of s ≡ 0) × (s.opened ≡ false) × (s.made.items ≡ [])
+PhaseHolds Resting w l v last c s = Busy w l v last c s × WaitsNot s × IsOpened s
+PhaseHolds Asking w l v last c s = Busy w l v last c s × IsOpened s × Asks w l v s
+PhaseHolds Preparing w l v last c s = Busy w l v last c s × WaitsNot s × IsOpened s × Prepares w l v s
+PhaseHolds Claiming w l v last c s = Busy w l v last c s × WaitsNot s × IsOpened s
+PhaseHolds Working w l v last c s = Busy w l v last c s × WaitsNot s × IsOpened s × Works w l v s s.plan
+PhaseHolds Refusing w l v last c s = Busy w l v last c s × WaitsNot s × IsOpened s × RefusesFor w l v s s.plan
+PhaseHolds Committing w l v last c s = Busy w l v last c s × WaitsNot s × IsOpened s
+PhaseHolds Forcing w l v last c s = Busy w l v last c s × WaitsNot s × (s.opened ≡ false)
+PhaseHolds Acknowledging w l v last c s = Busy w l v last c s × WaitsNot s × (s.opened ≡ false)
+PhaseHolds Leaving w l v last c s = Busy w l v last c s × WaitsNot s × (s.closed ≡ false → (w.txns (txn_of s)).stage ≡ leaving)
+
+-- A CONNECTION'S OWN PART
+pub record SessionHolds (w : World) (l : Lock) (v : View) (last c : ℕ) (s : Session) : Type 0 where
+  pub begun : (w.conns c).begun ≡ s.begun
+  pub level : (w.conns c).level ≡ s.level
+  pub automatic : (w.conns c).automatic ≡ s.automatic
+  pub closed : s.closed ≡ false → (w.conns c).closed ≡ false
+  pub spans : s.spans ≡ spans_of s.script
+  pub phase : PhaseHolds s.phase w l v last c s
+
+-- a request that waits is due, and who asks for a table has the dictionary
+pub record Waits (w : World) (l : Lock) (r : Request) : Type 0 where
+  pub wants : Wants w r.txn.0 r.name r.mode
+  pub rooted : (r.name ≡ Dictionary) ⊎ ReadsCatalog (locks_of l.grants) r.txn.0
+
+-- THE GUARANTEE OF A STEP to a connection of another, whose transaction is t: locks only grow, and a request of its own may be granted
+pub record LockKept (t : TxnNo) (l l' : Lock) : Type 0 where
+  pub none : waiting l t ≡ None → waiting l' t ≡ None
+  pub some : (n : LockName) (m : Mode) → waiting l t ≡ Some (request t n m) → (waiting l' t ≡ Some (request t n m)) ⊎ (has_mode (l'.grants t n) m ≡ true)
+  pub has : (n : LockName) (m : Mode) → has_mode (l.grants t n) m ≡ true → has_mode (l'.grants t n) m ≡ true
+
+-- and the store leaves what it holds and has changed
+pub record Beside (t : TxnNo) (b : ℕ) (w : World) (l : Lock) (v : View) (w' : World) (l' : Lock) (v' : View) : Type 0 where
+  pub others : Others t.0 w (locks_of l.grants) w' (locks_of l'.grants)
+  pub locks : LockKept t l l'
+  pub changes : v'.content.changes t.0 ≡ v.content.changes t.0
+  pub actor : v'.actors b ≡ v.actors b
+  -- of what it relies on, with the catalog
+  pub heaps : ReadsCatalog (locks_of l.grants) t.0 → (table : ℕ) (rid : RowId) → (locks_of l.grants).reads t.0 table rid ≡ true → v'.content.heaps table rid ≡ v.content.heaps table rid
+  pub columns : ReadsCatalog (locks_of l.grants) t.0 → (table : ℕ) → v'.content.columns table ≡ v.content.columns table
+
+-- how often a transaction asks
+abbrev pub times_in : TxnNo → List Request → ℕ
+times_in t [] = 0
+times_in t (r ∷ rs) = if same_txn r.txn t then times_in t rs + 1 else times_in t rs
+
+-- THE INVARIANT
+pub record Holds (st : State) (last : ℕ) : Type 0 where
+  pub legal : IsLegal no_tables (scripts_of st.ss) st.es st.ls
+  pub shared : Shared (world_of st.es) (locks_of st.lock.grants)
+  pub apart : IsApart st.lock.grants
+  pub fold : lock_of (events_of st.ls) ≡ st.lock
+  pub alone : (t : TxnNo) → times_in t (queue st.lock) ≤ 1
+  pub waits : All (Waits (world_of st.es) st.lock) (queue st.lock)
+  pub each : (i : ℕ) (d : Session) → i < length st.ss → SessionHolds (world_of st.es) st.lock st.view last (i + 1) (slice_index_or st.ss i d)
+  pub last_is : (world_of st.es).last ≡ last
+  pub fresh : (t : ℕ) → last < t → (world_of st.es).txns t ≡ no_txn
+  pub given : Each (λ n. n < st.view.content.next_container) (world_of st.es).given
+  pub stored : (table : ℕ) (rid : RowId) → live (st.view.content.heaps table rid) ≡ (world_of st.es).current table rid
+  pub zero : st.view.content.changes 0 ≡ None
+  pub known : (t : ℕ) → st.view.content.changes t ≢ None → Among t (map txn_of st.ss)
+  pub holders : (b : ℕ) → (st.view.actors b).pages ≢ 0 → (1 ≤ b) × (b ≤ length st.ss)
+  pub few : length st.ss < st.view.limit
+  pub dictionary : IsDictionary (world_of st.es).current st.named
+
+-- ROOM. How many entries a connection may still have to put, whatever happens: its changes taken back, and its statement's and its transaction's end
+abbrev pub ends_in : Phase → ℕ
+ends_in Idle = 0
+ends_in Resting = 1
+ends_in Asking = 3
+ends_in Preparing = 3
+ends_in Claiming = 3
+ends_in Working = 3
+ends_in Refusing = 2
+ends_in Committing = 2
+ends_in Forcing = 1
+ends_in Acknowledging = 1
+ends_in Leaving = 1
+
+abbrev pub entries_of : Session → ℕ
+entries_of s = length s.made.items + ends_in s.phase
+
+-- and lock events: all that it has goes at the end
+abbrev pub opens : Phase → ℕ
+opens Idle = 0
+opens _ = 1
+
+abbrev pub releases_of : Session → ℕ
+releases_of s = opens s.phase
+
+abbrev pub sum_of : (Session → ℕ) → List Session → ℕ
+sum_of f [] = 0
+sum_of f (s ∷ ss) = f s + sum_of f ss
+
+-- room is kept for all of it, and for the grants of all requests that wait
+pub record HasRoom {Z : Type 0} (entries : Vec Entry Z) (events : Vec Locked Z) (ss : List Session) (l : Lock) (owed owed_events : ℕ) : Type 0 where
+  pub owed_is : owed ≡ sum_of entries_of ss
+  pub owed_events_is : owed_events ≡ sum_of releases_of ss
+  pub entries_fit : vec_len entries + owed ≤ vec_capacity entries
+  pub events_fit : vec_len events + owed_events + length (queue l) ≤ vec_capacity events

@@ -1,0 +1,330 @@
+//! The engine: its connections over one store, and the journal that they write.
+
+ghost use Rattle.std.specs.Prelude.{◌≡◌, ◌+◌, ◌^◌, ◌<◌, ◌≤◌, ◌++◌, [], ◌∷◌, length, vec_len, vec_capacity};
+ghost use Rattle.lock_modes.specs.Lock.{queue};
+ghost use Rattle.lock_manager.specs.Table.{lock, woken_of};
+ghost use Rattle.session_engine.specs.Release.{Idles, Released};
+ghost use Rattle.session_engine.specs.Noted.{noted};
+
+use crate::dictionary::Tables;
+use crate::follows::{automatic_after, ends, level_after, phase_answered, phase_refused, told};
+use crate::session::{Phase, Plan, Session};
+use crate::step::{Event, Step, Stop, Why};
+use dby_types::number::TxnNo;
+use dby_types::seq::Seq;
+use journal_model::journal::Entry;
+use lock_manager::table::LockTable;
+use lock_modes::event::LockEvent;
+use session_model::journal::Locked;
+use std::alloc::Global;
+use std::marker::Model;
+use std::mem;
+use store_api::answers::{StoreAnswer, Undo};
+use store_api::places::Actor;
+use store_api::store::RowStore;
+
+/// Connections that take turns over one store.
+#[derive(Drop)]
+pub struct Engine<S: RowStore> {
+    pub(crate) alloc: Global,
+    pub(crate) store: S,
+    pub(crate) entries: Vec<Entry>,
+    pub(crate) events: Vec<Locked>,
+    pub(crate) locks: LockTable,
+    pub(crate) tables: Tables,
+    pub(crate) sessions: Vec<Session>,
+    /// The greatest number of a transaction.
+    pub(crate) last: u64,
+    /// For how many entries, and lock events, room is kept.
+    pub(crate) owed: usize,
+    pub(crate) owed_events: usize,
+    pub(crate) stop: Option<Stop>,
+}
+
+impl<S: RowStore> Model for Engine<S> {
+    ghost use Rattle.std.specs.Prelude.{List};
+    ghost use Rattle.journal_model.specs.declared.journal.Entry.{Entry};
+    ghost use Rattle.session_model.specs.declared.journal.Locked.{Locked};
+    ghost use Rattle.session_engine.specs.Engine.{EngineHolds};
+    ghost use Rattle.sql_ast.specs.contracts.expression.Expression as expression;
+    ghost use Rattle.std.specs.Coded.{codes};
+
+    ghost coded = { Prim.hlevel (codes, expression.the_row.coded) };
+
+    ghost Value = { List Entry × List Locked × S };
+
+    ghost view = { λ e. (e.entries.items, e.events.items, e.store) };
+
+    ghost invariant = { λ e. EngineHolds e.entries e.events e.locks e.sessions.items (S.view e.store) e.tables.entries e.last e.owed e.owed_events };
+}
+
+/// Puts an entry for which there is room.
+pub(crate) fn put<T: Drop>(items: &mut Vec<T>, item: T)
+    requires { vec_len items.old < vec_capacity items.old }
+    ensures items { items.new.items ≡ items.old.items ++ item ∷ [] }
+    ensures len { vec_len items.new ≡ vec_len items.old + 1 }
+    ensures capacity { vec_capacity items.old ≤ vec_capacity items.new }
+{
+    let _ = items.push(item);
+}
+
+/// The actor that a connection is for the store: the first one is 1.
+fn actor_of(c: usize) -> Actor
+    requires { c + 1 < 2 ^ 32 }
+    ensures { result ≡ c + 1 }
+{
+    c as u32 + 1
+}
+
+/// The connection has no transaction any more.
+fn idle(session: &mut Session, closed: bool)
+    ensures { Idles session.old session.new closed }
+{
+    session.phase = Phase::Idle;
+    session.txn = TxnNo(0);
+    session.opened = false;
+    session.closed = closed;
+    session.made.clear();
+    session.order = None;
+    session.plan = Plan::Nothing;
+}
+
+/// Puts the events of all grants that aren't given yet.
+fn note_grants(locks: &mut LockTable, events: &mut Vec<Locked>, place: u64)
+    requires { vec_len events.old + length (woken_of locks.old) ≤ vec_capacity events.old }
+    ensures events { events.new.items ≡ events.old.items ++ noted place (woken_of locks.old) }
+    ensures len { vec_len events.new ≡ vec_len events.old + length (woken_of locks.old) }
+    ensures capacity { vec_capacity events.old ≤ vec_capacity events.new }
+    ensures same { lock locks.new ≡ lock locks.old }
+    ensures none { woken_of locks.new ≡ [] }
+{
+    'gives: while let Some((txn, name, mode)) = locks.woken() {
+        put(
+            events,
+            Locked {
+                place,
+                event: LockEvent::Granted(txn, name, mode),
+            },
+        );
+    }
+}
+
+/// Gives back all that a transaction has, and puts the events: its own, and the grants that follow. Room for them is there.
+fn release(locks: &mut LockTable, events: &mut Vec<Locked>, place: u64, txn: TxnNo)
+    requires none { woken_of locks.old ≡ [] }
+    requires room { vec_len events.old + 1 + length (queue (lock locks.old)) ≤ vec_capacity events.old }
+    ensures given { Released locks.old locks.new events.old events.new place txn }
+    ensures none { woken_of locks.new ≡ [] }
+{
+    locks.release_all(txn);
+    put(
+        events,
+        Locked {
+            place,
+            event: LockEvent::ReleasedAll(txn),
+        },
+    );
+    note_grants(locks, events, place);
+}
+
+impl<S: RowStore> Engine<S> {
+    /// Keeps the store's first failure, and answers it; where there is none, the step went.
+    fn note(&mut self, answer: Result<(), StoreAnswer>, event: Event) -> Step {
+        match answer {
+            Err(StoreAnswer::Failed) => {
+                let faults = self.store.faults();
+                self.stop_for(Stop::Fault(faults))
+            }
+            Err(StoreAnswer::Damaged(damage)) => self.stop_for(Stop::Damage(damage)),
+            _ => Step::Went(event),
+        }
+    }
+
+    fn stop_for(&mut self, stop: Stop) -> Step {
+        self.stop = Some(stop);
+        Step::Stopped(stop)
+    }
+
+    /// The commit record: from here on the commit stands, and is not durable yet.
+    pub(crate) fn append(&mut self, c: usize) -> Step {
+        if c >= self.sessions.len() {
+            return Step::Ended;
+        }
+        let session = &mut self.sessions[c];
+        let Phase::Committing = session.phase else {
+            return Step::Ended;
+        };
+        let answer = self.store.append_commit(session.txn);
+        put(&mut self.entries, Entry::Committed(session.txn));
+        self.owed -= session.made.len() + 1;
+        session.made.clear();
+        session.opened = false;
+        session.phase = Phase::Forcing;
+        self.note(answer, Event::Append)
+    }
+
+    /// The commit is made durable.
+    pub(crate) fn force(&mut self, c: usize) -> Step {
+        if c >= self.sessions.len() {
+            return Step::Ended;
+        }
+        let Phase::Forcing = self.sessions[c].phase else {
+            return Step::Ended;
+        };
+        let answer = self.store.force();
+        if answer.is_ok() {
+            let session = &mut self.sessions[c];
+            session.phase = Phase::Acknowledging;
+        }
+        self.note(answer, Event::Force)
+    }
+
+    /// The commit is durable: all locks go, and the connection may be told.
+    pub(crate) fn acknowledge(&mut self, c: usize) -> Step {
+        if c >= self.sessions.len() {
+            return Step::Ended;
+        }
+        let session = &mut self.sessions[c];
+        let Phase::Acknowledging = session.phase else {
+            return Step::Ended;
+        };
+        let txn = session.txn;
+        put(&mut self.entries, Entry::Acknowledged(txn));
+        self.owed -= session.made.len() + 1;
+        self.owed_events -= 1;
+        idle(session, session.closed);
+        release(
+            &mut self.locks,
+            &mut self.events,
+            self.entries.len() as u64,
+            txn,
+        );
+        Step::Went(Event::Acknowledge)
+    }
+
+    /// A change of a transaction that leaves is taken back; where none is left, the transaction ends.
+    pub(crate) fn leave(&mut self, c: usize) -> Step {
+        if c >= self.sessions.len() {
+            return Step::Ended;
+        }
+        self.store.law();
+        let actor = actor_of(c);
+        let session = &mut self.sessions[c];
+        let Phase::Leaving = session.phase else {
+            return Step::Ended;
+        };
+        let true = session.opened else {
+            return Step::Ended;
+        };
+        let txn = session.txn;
+        match self.store.undo_one(actor, txn, 0) {
+            Ok(
+                Undo::Undid {
+                    table: _table,
+                    rid: _rid,
+                },
+            ) => {
+                if let Some(did) = session.made.pop() {
+                    put(&mut self.entries, Entry::Undone { txn, did });
+                    self.owed -= 1;
+                }
+                Step::Went(Event::Undo)
+            }
+            Ok(Undo::Done) => {
+                let answer = self.store.rolled_back(txn);
+                put(&mut self.entries, Entry::RolledBack(txn));
+                self.owed -= session.made.len() + 1;
+                self.owed_events -= 1;
+                idle(session, session.closed);
+                let place = self.entries.len() as u64;
+                release(&mut self.locks, &mut self.events, place, txn);
+                self.note(answer, Event::Rollback)
+            }
+            Ok(Undo::UndidContainer) => Step::Went(Event::Undo),
+            Ok(Undo::Onward) => Step::Went(Event::Fix),
+            Ok(Undo::Held(b)) => {
+                self.store.let_go(actor);
+                Step::Blocked(Why::Latch(b))
+            }
+            Err(answer) => self.note(Err(answer), Event::Undo),
+        }
+    }
+
+    /// A change of a refused statement is taken back; where none is left, the refusal is put.
+    pub(crate) fn refuse(&mut self, c: usize) -> Step {
+        if c >= self.sessions.len() {
+            return Step::Ended;
+        }
+        self.store.law();
+        let actor = actor_of(c);
+        let session = &mut self.sessions[c];
+        let Phase::Refusing = session.phase else {
+            return Step::Ended;
+        };
+        let txn = session.txn;
+        match self.store.undo_one(actor, txn, session.mark) {
+            Ok(
+                Undo::Undid {
+                    table: _table,
+                    rid: _rid,
+                },
+            ) => {
+                if let Some(did) = session.made.pop() {
+                    put(&mut self.entries, Entry::Undone { txn, did });
+                    self.owed -= 1;
+                }
+                Step::Went(Event::Undo)
+            }
+            Ok(Undo::Done) => {
+                let planned = mem::replace(&mut session.plan, Plan::Nothing);
+                match planned {
+                    Plan::Refuse(why) => {
+                        session.phase = phase_refused(&why, session.automatic, session.first);
+                        put(&mut self.entries, Entry::Refused { txn, why });
+                        self.owed -= 1;
+                    }
+                    other => session.plan = other,
+                }
+                Step::Went(Event::Finish)
+            }
+            Ok(Undo::UndidContainer) => Step::Went(Event::Undo),
+            Ok(Undo::Onward) => Step::Went(Event::Fix),
+            Ok(Undo::Held(b)) => {
+                self.store.let_go(actor);
+                Step::Blocked(Why::Latch(b))
+            }
+            Err(answer) => self.note(Err(answer), Event::Undo),
+        }
+    }
+
+    /// A command is answered: it ends its transaction, or sets its connection.
+    pub(crate) fn command(&mut self, c: usize) -> Step {
+        if c >= self.sessions.len() {
+            return Step::Ended;
+        }
+        let place = self.entries.len() as u64;
+        let session = &mut self.sessions[c];
+        let Phase::Working = session.phase else {
+            return Step::Ended;
+        };
+        let Plan::Command(command) = session.plan else {
+            return Step::Ended;
+        };
+        put(
+            &mut self.entries,
+            Entry::Answered {
+                txn: session.txn,
+                answer: told(command),
+                joined: Seq::new(self.alloc),
+                from: place,
+                to: place,
+            },
+        );
+        session.phase = phase_answered(command, session.automatic, session.first);
+        self.owed -= ends(Phase::Working) - ends(session.phase);
+        session.level = level_after(command, session.level);
+        session.automatic = automatic_after(command, session.automatic);
+        session.plan = Plan::Nothing;
+        Step::Went(Event::Finish)
+    }
+}
