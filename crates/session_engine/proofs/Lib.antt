@@ -11,3 +11,4 @@ pub mod AskLemmas
 pub mod RoomLemmas
 pub mod ReleaseLemmas
 pub mod CountLemmas
+pub mod OpeningLemmas

@@ -4,3 +4,4 @@ pub mod Noted
 pub mod Release
 pub mod Follows
 pub mod Engine
+pub mod Opening

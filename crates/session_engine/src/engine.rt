@@ -1,22 +1,29 @@
 //! The engine: its connections over one store, and the journal that they write.
 
-ghost use Rattle.std.specs.Prelude.{◌≡◌, ◌+◌, ◌^◌, ◌<◌, ◌≤◌, ◌++◌, [], ◌∷◌, length, vec_len, vec_capacity};
+ghost use Rattle.std.specs.Prelude.{IfOk, ◌≡◌, ◌+◌, ◌^◌, ◌<◌, ◌≤◌, ◌++◌, [], ◌∷◌, length, vec_len, vec_capacity};
 ghost use Rattle.lock_modes.specs.Lock.{queue};
 ghost use Rattle.lock_manager.specs.Table.{lock, woken_of};
 ghost use Rattle.session_engine.specs.Release.{Idles, Released};
 ghost use Rattle.session_engine.specs.Noted.{noted};
+ghost use Rattle.session_engine.specs.Opening.{IsEmptyStore};
+ghost use Rattle.session_model.specs.Legal.{IsLegal};
+ghost use Rattle.table_model.specs.Tables.{Each, no_tables};
 
 use crate::dictionary::Tables;
 use crate::follows::{automatic_after, ends, level_after, phase_answered, phase_refused, told};
+use crate::opening::connections;
 use crate::session::{Phase, Plan, Session};
 use crate::step::{Event, Step, Stop, Why};
 use dby_types::number::TxnNo;
 use dby_types::seq::Seq;
+use dby_types::value::Txt;
+use indexmap::IndexMap;
 use journal_model::journal::Entry;
 use lock_manager::table::LockTable;
 use lock_modes::event::LockEvent;
 use session_model::journal::Locked;
-use std::alloc::Global;
+use std::alloc::{AllocError, Global};
+use std::collections::VecDeque;
 use std::marker::Model;
 use std::mem;
 use store_api::answers::{StoreAnswer, Undo};
@@ -42,7 +49,8 @@ pub struct Engine<S: RowStore> {
 }
 
 impl<S: RowStore> Model for Engine<S> {
-    ghost use Rattle.std.specs.Prelude.{List};
+    ghost use Rattle.std.specs.Prelude.{List, ℕ};
+    ghost use Rattle.session_engine.specs.State.{scripts_of};
     ghost use Rattle.journal_model.specs.declared.journal.Entry.{Entry};
     ghost use Rattle.session_model.specs.declared.journal.Locked.{Locked};
     ghost use Rattle.session_engine.specs.Engine.{EngineHolds};
@@ -51,9 +59,9 @@ impl<S: RowStore> Model for Engine<S> {
 
     ghost coded = { Prim.hlevel (codes, expression.the_row.coded) };
 
-    ghost Value = { List Entry × List Locked × S };
+    ghost Value = { List (List ℕ) × List Entry × List Locked × S };
 
-    ghost view = { λ e. (e.entries.items, e.events.items, e.store) };
+    ghost view = { λ e. (scripts_of e.sessions.items, e.entries.items, e.events.items, e.store) };
 
     ghost invariant = { λ e. EngineHolds e.entries e.events e.locks e.sessions.items (S.view e.store) e.tables.entries e.last e.owed e.owed_events };
 }
@@ -127,7 +135,43 @@ fn release(locks: &mut LockTable, events: &mut Vec<Locked>, place: u64, txn: Txn
     note_grants(locks, events, place);
 }
 
+impl<S: RowStore + Drop> Engine<S> {
+    /// Over a store without rows: a connection for each script, none of which has begun a statement.
+    pub fn open(
+        alloc: Global,
+        store: S,
+        scripts: &mut VecDeque<Txt>,
+    ) -> Result<Engine<S>, AllocError>
+        requires empty { IsEmptyStore (S.view store) }
+        requires few { length scripts.old.items < (S.view store).limit }
+        requires short { Each (λ s. length s < 2 ^ 32) scripts.old.items }
+        ensures { IfOk result (λ e. e ≡ (scripts.old.items, [], [], store)) }
+    {
+        let sessions = connections(alloc, scripts)?;
+        Ok(Engine {
+            alloc,
+            store,
+            entries: Vec::new(alloc),
+            events: Vec::new(alloc),
+            locks: LockTable::new(alloc),
+            tables: IndexMap::new(alloc),
+            sessions,
+            last: 0,
+            owed: 0,
+            owed_events: 0,
+            stop: None,
+        })
+    }
+}
+
 impl<S: RowStore> Engine<S> {
+    /// The journal is legal for the scripts, at any time.
+    pub fn law(&self)
+        ensures { IsLegal no_tables self.now.0 self.now.1 self.now.2 }
+    {
+        let _ = self.sessions.is_empty();
+    }
+
     /// Keeps the store's first failure, and answers it; where there is none, the step went.
     fn note(&mut self, answer: Result<(), StoreAnswer>, event: Event) -> Step {
         match answer {

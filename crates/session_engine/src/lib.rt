@@ -5,5 +5,6 @@
 pub mod dictionary;
 pub mod engine;
 mod follows;
+mod opening;
 pub mod session;
 pub mod step;
