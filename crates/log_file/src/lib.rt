@@ -12,3 +12,5 @@ pub mod force;
 mod laws;
 mod places;
 pub mod read;
+#[cfg(test)]
+mod tests;
