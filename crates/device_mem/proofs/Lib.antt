@@ -1,3 +1,4 @@
+pub mod LatestLemmas
 pub mod Moving
 pub mod Pasting
 pub mod Syncs

@@ -1,5 +1,6 @@
 pub mod CallLaws
 pub mod Calls
 pub mod Fuse
+pub mod Latest
 pub mod Scripts
 pub mod Segments

@@ -9,6 +9,7 @@ pub mod disk;
 pub mod failing;
 mod gauge;
 pub mod host;
+mod latest;
 pub mod page_bytes;
 mod segments;
 pub mod sink;
