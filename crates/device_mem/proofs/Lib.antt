@@ -1,3 +1,4 @@
+pub mod ImagesLemmas
 pub mod LatestLemmas
 pub mod Moving
 pub mod Pasting

@@ -1,9 +1,10 @@
 //! The calls that changed a disk, with what they say of a page and of the log at hand.
 
-ghost use Rattle.std.specs.Prelude.{◌≡◌, ◌≤◌, ℕ, ◌∷◌, [], None, Some, true, false, length, reverse, MatchOption, OnOk, OnErr};
+ghost use Rattle.std.specs.Prelude.{◌≡◌, ◌≤◌, ◌<◌, ◌^◌, ℕ, ◌∷◌, [], None, Some, true, false, length, reverse, MatchOption, OnOk, OnErr};
 ghost use Rattle.device.specs.Counts.{HasCause};
 ghost use Rattle.device.specs.Disk.{GivesLog};
 ghost use Rattle.device_mem.specs.Calls.{page_of, log_of};
+ghost use Rattle.device_mem.specs.Images.{calls_at};
 ghost use Rattle.device_mem.specs.Latest.{latest_in, latest_after, log_after, page_in, page_at};
 ghost use Rattle.device_mem.specs.Segments.{bytes_in};
 
@@ -13,7 +14,7 @@ use crate::latest::{Latest, forget, make as make_pages, note, number};
 use crate::page_bytes::PageBytes;
 use crate::segments::{clear, copy_from, make, write};
 use device::Failed;
-use std::alloc::Global;
+use std::alloc::{AllocError, Global};
 use std::collections::HashMap;
 use std::marker::Model;
 
@@ -58,7 +59,8 @@ impl Calls {
 
     /// How many calls.
     pub fn len(&self) -> usize
-        ensures { result ≡ length self.now }
+        ensures exact { result ≡ length self.now }
+        ensures small { result < 2 ^ 63 }
     {
         self.made.len()
     }
@@ -81,14 +83,19 @@ impl Calls {
         }
     }
 
-    /// One call more, the newest. Where there is no memory the calls are as before.
-    pub fn add(&mut self, call: Call) -> bool
-        ensures yes { result ≡ true → self.new ≡ call ∷ self.old }
-        ensures otherwise { result ≡ false → self.new ≡ self.old }
+    /// The calls up to a moment, in their order.
+    pub fn first(&self, m: usize) -> &[Call]
+        ensures { m ≤ length self.now → reverse result.now ≡ calls_at m self.now }
     {
-        if self.made.reserve(1).is_err() {
-            return false;
-        }
+        &self.made[..m.min(self.made.len())]
+    }
+
+    /// One call more, the newest. Where there is no memory the calls are as before.
+    pub fn add(&mut self, call: Call) -> Result<(), AllocError>
+        ensures ok { OnOk result (self.new ≡ call ∷ self.old) }
+        ensures err { OnErr result (self.new ≡ self.old) }
+    {
+        self.made.reserve(1)?;
         let noted = apply(
             self.alloc,
             &mut self.latest,
@@ -97,10 +104,10 @@ impl Calls {
             self.made.len(),
         );
         if !noted {
-            return false;
+            return Err(AllocError);
         }
         let _ = self.made.push(call);
-        true
+        Ok(())
     }
 }
 
@@ -167,9 +174,9 @@ pub fn put(calls: &mut Calls, gauge: &mut Gauge, call: Call) -> Result<(), Faile
     ensures err { OnErr result (calls.new ≡ calls.old) }
     ensures cause { HasCause gauge.old.faults gauge.new.faults result }
 {
-    if calls.add(call) {
-        return Ok(());
+    if calls.add(call).is_err() {
+        gauge.fail();
+        return Err(Failed);
     }
-    gauge.fail();
-    Err(Failed)
+    Ok(())
 }

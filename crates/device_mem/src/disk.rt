@@ -1,10 +1,12 @@
 //! A disk in memory.
 
-ghost use Rattle.std.specs.Prelude.{◌≡◌, ℕ, [], Some, length};
+ghost use Rattle.std.specs.Prelude.{◌≡◌, ℕ, [], Some, length, ◌+◌, IfOk};
+ghost use Rattle.device_mem.specs.Images.{IsWell, AreLeft};
 
 use crate::call::Call;
 use crate::calls::{Calls, put};
 use crate::gauge::Gauge;
+use crate::images::push_moments;
 use crate::page_bytes::PageBytes;
 use device::{Disk, Failed};
 use std::alloc::{AllocError, Global};
@@ -17,6 +19,9 @@ pub struct MemDisk {
     gauge: Gauge,
 }
 
+/// Disks that a crash may have left.
+pub type Images = Vec<MemDisk>;
+
 impl MemDisk {
     /// A disk without pages and log, which fails at no call.
     pub fn new(alloc: Global) -> MemDisk
@@ -28,6 +33,28 @@ impl MemDisk {
             calls: Calls::new(alloc),
             gauge: Gauge::new(alloc),
         }
+    }
+
+    /// A disk of these calls, which fails at no call.
+    pub(crate) fn made(alloc: Global, calls: Calls) -> MemDisk
+        ensures exact { result.calls ≡ calls }
+        ensures well { IsWell result }
+    {
+        MemDisk {
+            alloc,
+            calls,
+            gauge: Gauge::new(alloc),
+        }
+    }
+
+    /// Disks that a crash since a moment may have left. Of each moment since then four are among them: all that wasn't synced of the pages, and
+    /// of the log, kept or lost. Each fails at no call, and another crash leaves what it holds.
+    pub fn images(&self, since: u64) -> Result<Images, AllocError>
+        ensures { IfOk result (λ i. AreLeft self.now.calls since (length self.now.calls + 1) i.items) }
+    {
+        let mut images = Vec::new(self.alloc);
+        push_moments(self.alloc, &self.calls, since as usize, &mut images)?;
+        Ok(images)
     }
 
     /// The calls with these numbers, counted from 0, fail.

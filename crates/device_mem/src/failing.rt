@@ -1,6 +1,6 @@
 //! Which calls of an object are to fail.
 
-ghost use Rattle.std.specs.Prelude.{◌≡◌, ◌≤◌, ℕ, List, ◌++◌, OnOk, OnErr, vec_len};
+ghost use Rattle.std.specs.Prelude.{◌≡◌, ◌≤◌, ℕ, List, [], ◌++◌, OnOk, OnErr, vec_len};
 
 use std::alloc::{AllocError, Global};
 
@@ -13,7 +13,9 @@ pub struct Failing {
 
 impl Failing {
     /// No call is to fail.
-    pub fn new(alloc: Global) -> Failing {
+    pub fn new(alloc: Global) -> Failing
+        ensures { result.listed.items ≡ [] }
+    {
         Failing {
             calls: 0,
             listed: Vec::new(alloc),

@@ -1,6 +1,6 @@
 //! Which calls of a disk fail: those that are listed, and all behind a fuse.
 
-ghost use Rattle.std.specs.Prelude.{◌≡◌, ◌-◌, Bool, true, false, ℕ, Option, Some, None, IsTrue, ◌↔◌};
+ghost use Rattle.std.specs.Prelude.{◌≡◌, [], ◌-◌, Bool, true, false, ℕ, Option, Some, None, IsTrue, ◌↔◌};
 ghost use Rattle.device.specs.Counts.{Rises};
 ghost use Rattle.device_mem.specs.Fuse.{IsBlown, burnt, PassesOrRises};
 
@@ -18,7 +18,9 @@ pub struct Gauge {
 impl Gauge {
     /// No failure yet, none listed, and no fuse.
     pub fn new(alloc: Global) -> Gauge
-        ensures { result.faults ≡ 0 }
+        ensures well { result.faults ≡ 0 }
+        ensures no_fuse { result.fuse ≡ None }
+        ensures none { result.failing.listed.items ≡ [] }
     {
         Gauge {
             failing: Failing::new(alloc),

@@ -9,6 +9,7 @@ pub mod disk;
 pub mod failing;
 mod gauge;
 pub mod host;
+mod images;
 mod latest;
 pub mod page_bytes;
 mod segments;

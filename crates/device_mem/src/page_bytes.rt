@@ -20,6 +20,14 @@ impl PageBytes {
         Ok(PageBytes { bytes })
     }
 
+    /// The same bytes once more.
+    pub fn copied(&self, alloc: Global) -> Result<PageBytes, AllocError>
+        ensures { IfOk result (λ b. b.bytes.items ≡ self.now.bytes.items) }
+    {
+        let bytes = Vec::from_slice(alloc, self.bytes.as_slice())?;
+        Ok(PageBytes { bytes })
+    }
+
     /// Copies the bytes into a page.
     pub fn read(&self, into: &mut [u8; 4096])
         ensures { into.new ≡ self.now.bytes.items }

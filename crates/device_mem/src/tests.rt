@@ -1,6 +1,6 @@
 //! A disk in memory: each call once, a listed call, and a fuse.
 
-use crate::disk::MemDisk;
+use crate::disk::{Images, MemDisk};
 use device::Disk;
 
 const PAGE: [u8; 4096] = [7; 4096];
@@ -46,4 +46,27 @@ fn listed_calls_and_calls_behind_the_fuse_fail(rt: HostRuntime) {
     assert!(rt; disk.log_sync().is_err());
     assert!(rt; disk.log_read(1, 0, &mut [0; 4]).is_err());
     assert!(rt; disk.faults() == 3);
+}
+
+/// How many of these disks have a page.
+fn having_page(images: &mut Images) -> usize {
+    let mut n: usize = 0;
+    for image in images.iter_mut() {
+        if image.page_read(1, 0, &mut [0; 4096]) == Ok(true) {
+            n = n.saturating_add(1);
+        }
+    }
+    n
+}
+
+#[test]
+fn half_of_the_images_have_a_page_that_was_not_synced(rt: HostRuntime) {
+    let mut disk = MemDisk::new(rt.alloc());
+    assert!(rt; disk.page_write(1, 0, &PAGE).is_ok());
+    let images = disk.images(1);
+    assert!(rt; images.is_ok());
+    if let Ok(mut images) = images {
+        assert!(rt; images.len() == 4);
+        assert!(rt; having_page(&mut images) == 2);
+    }
 }
