@@ -42,9 +42,10 @@ left_log false cs s = lost_log cs s
 
 -- what holds the calls that survive is an image
 is_image : (keeps_pages keeps_log : Bool) (cs disk : List Call) → Holds keeps_pages keeps_log cs disk → image_of cs (held_by disk)
-is_image keeps_pages keeps_log cs disk h =
-    (λ c p. subst (may_hold_of cs c p) (sym (h.pages_are c p)) (left_pages keeps_pages cs c p),
-    λ s. subst (may_log_of cs s) (sym (h.log_is s)) (left_log keeps_log cs s))
+is_image keeps_pages keeps_log cs disk h = (
+  λ c p. subst (may_hold_of cs c p) (sym (h.pages_are c p)) (left_pages keeps_pages cs c p),
+  λ s. subst (may_log_of cs s) (sym (h.log_is s)) (left_log keeps_log cs s),
+)
 
 drop_none : (k : ℕ) → drop {A = Call} k [] ≡ []
 drop_none zero = refl
@@ -151,8 +152,8 @@ four false false cs old new f =
 pub moment-turn : (calls : List Call) (since m : ℕ) (old new : List MemDisk) → since ≤ m → m ≤ length calls → AddsFour (calls_at m calls) old new → AreLeft calls since m old → AreLeft calls since (m + 1) new
 moment-turn calls since m old new early late f h = record {
   each =
-  each_more calls since m true true f.three new early late f.kept (
-    each_more calls since m true false f.two f.three early late f.pages_kept (
+      each_more calls since m true true f.three new early late f.kept (
+      each_more calls since m true false f.two f.three early late f.pages_kept (
       each_more calls since m false true f.one f.two early late f.log_kept (each_more calls since m false false old f.one early late f.lost h.each)));
   named = λ n from before k l. elim (cases_lt n m) [
     | inl lt ↦ kept_four (λ (d : MemDisk). Holds k l (calls_at n calls) d.calls) (calls_at m calls) old new f (h.named n from lt k l)

@@ -150,11 +150,7 @@ fn push_image(
 }
 
 /// Adds what a crash after these calls may have left.
-fn push_moment(
-    alloc: Global,
-    calls: &[Call],
-    images: &mut Vec<MemDisk>,
-) -> Result<(), AllocError>
+fn push_moment(alloc: Global, calls: &[Call], images: &mut Vec<MemDisk>) -> Result<(), AllocError>
     ensures { OnOk result (AddsFour (reverse calls.now) images.old.items images.new.items) }
 {
     push_image(alloc, calls, false, false, images)?;
