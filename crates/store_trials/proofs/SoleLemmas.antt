@@ -173,15 +173,6 @@ read-is v w rid r row marked e reads = subst (Reads 1 1 rid v w) e reads
 pub free_sole : (v : View) (t c : ℕ) → IsSole v t → (u : ℕ) → u ≢ t → Each (IsOutside c) (changes_in (v.content.changes u))
 free_sole v t c sole u ne = subst (λ x. Each (IsOutside c) (changes_in x)) (sym (sole.only u ne)) tt
 
--- a table without columns may be described
-pub describes_sole : (v w : View) (t : ℕ) → IsSole v t → w.content ≡ record v.content { columns = at_number v.content.columns 5 (Some []) } → ((b : ℕ) → w.actors b ≡ v.actors b) → IsSole w t
-describes_sole v w t sole stored everyone = record {
-  begun = subst (λ (d : Content). d.changes t ≢ None) (sym stored) sole.begun;
-  only = λ u ne. ap (λ (d : Content). d.changes u) stored ∙ sole.only u ne;
-  others = λ b ne. ap (λ h. h.pages) (everyone b) ∙ sole.others b ne;
-  described = ap (λ (d : Content). d.columns 1) stored ∙ at_away v.content.columns 5 (Some []) 1 (λ e. absurd (omega (arith, e))) ∙ sole.described;
-}
-
 -- an open transaction of which no change stands
 pub empty_sole : (v : View) (t : ℕ) → IsSole v t → length (changes_in (v.content.changes t)) ≡ 0 → v.content.changes t ≡ Some []
 empty_sole v t sole none = go (v.content.changes t) refl none

@@ -1,6 +1,6 @@
 //! Each call once, over the store over vectors and over one that sends actors onward; also where each allocation fails in turn.
 
-ghost use Rattle.std.specs.Prelude.{◌≡◌, ◌≤◌, ◌⊎◌, IfOk, IfSome, length, pos, true};
+ghost use Rattle.std.specs.Prelude.{◌≡◌, ◌≤◌, ◌⊎◌, [], IfOk, IfSome, length, pos, true};
 ghost use Rattle.std.specs.Bool.{OnTrue};
 ghost use Rattle.list_store.specs.Lists.{seen};
 ghost use Rattle.store_api.specs.Catalog.{columns_of_tables};
@@ -14,13 +14,14 @@ use crate::again::{
 use crate::onward::OnwardStore;
 use crate::sole::{commits, ends_undone, goes_on, lets_go, reaches, undoes};
 use dby_types::copies::copy_text;
+use dby_types::definition::TableDef;
 use dby_types::number::{RowId, TxnNo};
 use dby_types::seq::Seq;
 use dby_types::value::{Row, Value};
 use list_store::lists::ListStore;
 use std::alloc::{AllocError, Global};
 use std::test::Fail;
-use store_api::answers::{Moved, Undo};
+use store_api::answers::{Moved, StoreAnswer, Undo};
 use store_api::places::{At, Target};
 use store_api::store::RowStore;
 
@@ -290,6 +291,29 @@ fn is_sent_on<S: RowStore>(store: &mut S) -> bool
     }
 }
 
+/// A table without columns is described.
+fn describes<S: RowStore>(store: &mut S, table: &TableDef) -> Result<(), StoreAnswer>
+    requires number { table.now.number ≡ 5 }
+    requires none { table.now.columns ≡ [] }
+{
+    store.law();
+    store.describe_table(table)
+}
+
+/// The same, also where memory is wanting once.
+fn describes_at_last<S: RowStore>(store: &mut S, alloc: Global) -> bool {
+    let table = TableDef {
+        number: 5,
+        name: Seq::new(alloc),
+        columns: Seq::new(alloc),
+    };
+    match describes(store, &table) {
+        Ok(()) => true,
+        Err(StoreAnswer::Memory) => describes(store, &table) == Ok(()),
+        Err(_) => false,
+    }
+}
+
 /// A store over vectors with nothing in it, behind one that sends actors onward.
 fn behind(alloc: Global) -> OnwardStore<ListStore>
     ensures { IsIdle (⟦<OnwardStore<ListStore> as RowStore>⟧.view result) }
@@ -368,5 +392,16 @@ fn only_one_store_sends_a_search_onward(rt: HostRuntime) -> Result<(), Fail> {
     assert!(rt; !is_sent_on(&mut store));
     let mut onward = behind(rt.alloc());
     assert!(rt; is_sent_on(&mut onward));
+    Ok(())
+}
+
+#[test]
+fn tables_are_described_and_65_actors_may_hold_pages(rt: HostRuntime) -> Result<(), Fail> {
+    let mut store = ListStore::new(rt.alloc());
+    assert!(rt; store.actors() == 65);
+    assert!(rt; describes_at_last(&mut store, rt.alloc()));
+    let mut onward = behind(rt.alloc());
+    assert!(rt; onward.actors() == 65);
+    assert!(rt; describes_at_last(&mut onward, rt.alloc()));
     Ok(())
 }
