@@ -9,6 +9,11 @@ use Rattle.store_api.specs.declared.slot.Item.{Item}
 use Rattle.store_api.specs.declared.slot.Item.TheVariants.{Created}
 use Rattle.store_api.specs.declared.slot.Slot.{Slot}
 use Rattle.store_api.specs.Effects.{slot_of, with_item, FitsTable, MayChange, IsElsewhere, IsOutside, IsAtRow, Undoes, Creates, Reads, Fixes, GoesOn}
+use Rattle.dby_types.specs.declared.number.Damage.{Damage}
+use Rattle.dby_types.specs.declared.state.SqlState.{SqlState}
+use Rattle.store_api.specs.Frames.{HasCause}
+use Rattle.store_api.specs.declared.answers.StoreAnswer.{StoreAnswer}
+use Rattle.store_api.specs.declared.answers.StoreAnswer.TheVariants.{Failed, Damaged, Full, Memory}
 use Rattle.store_api.specs.Catalog.{columns_of_tables, catalog_columns}
 use Rattle.store_api.specs.Order.{shown_at, at_place}
 use Rattle.store_api.specs.declared.places.Place.{Place}
@@ -22,7 +27,7 @@ use Rattle.store_api.specs.declared.answers.Made.TheVariants as made
 use Rattle.store_api.specs.View.{View, Content, Heaps, IsSound, at_number, FewerThan, MayHold, MayBegin, changes_in}
 use Rattle.table_model.specs.Tables.{Each}
 use Rattle.table_model.specs.Fitting.{fits_columns}
-use Rattle.store_trials.specs.Sole.{IsIdle, IsSole, IsWithin}
+use Rattle.store_trials.specs.Sole.{IsIdle, IsSole, IsWithin, IsIdleStill, IsSoleStill}
 use Rattle.store_trials.specs.Sent.{IsOver}
 
 at_here : {X : Type 0} (f : ℕ → X) (n : ℕ) (x : X) → at_number f n x n ≡ x
@@ -168,15 +173,6 @@ read-is v w rid r row marked e reads = subst (Reads 1 1 rid v w) e reads
 pub free_sole : (v : View) (t c : ℕ) → IsSole v t → (u : ℕ) → u ≢ t → Each (IsOutside c) (changes_in (v.content.changes u))
 free_sole v t c sole u ne = subst (λ x. Each (IsOutside c) (changes_in x)) (sym (sole.only u ne)) tt
 
--- a table without columns may be described
-pub describes_sole : (v w : View) (t : ℕ) → IsSole v t → w.content ≡ record v.content { columns = at_number v.content.columns 5 (Some []) } → ((b : ℕ) → w.actors b ≡ v.actors b) → IsSole w t
-describes_sole v w t sole stored everyone = record {
-  begun = subst (λ (d : Content). d.changes t ≢ None) (sym stored) sole.begun;
-  only = λ u ne. ap (λ (d : Content). d.changes u) stored ∙ sole.only u ne;
-  others = λ b ne. ap (λ h. h.pages) (everyone b) ∙ sole.others b ne;
-  described = ap (λ (d : Content). d.columns 1) stored ∙ at_away v.content.columns 5 (Some []) 1 (λ e. absurd (omega (arith, e))) ∙ sole.described;
-}
-
 -- an open transaction of which no change stands
 pub empty_sole : (v : View) (t : ℕ) → IsSole v t → length (changes_in (v.content.changes t)) ≡ 0 → v.content.changes t ≡ Some []
 empty_sole v t sole none = go (v.content.changes t) refl none
@@ -201,3 +197,24 @@ idle_over v w over idle = record {
 
 pub may_hold_idle : (v : View) → IsSound v → IsIdle v → MayHold v 1
 may_hold_idle v sound idle = few v.limit _ sound.limit.0 (λ b p. p.1 (idle.none_holds b))
+
+-- after want of memory an idle store is idle, and a number that was fresh is
+pub idle_still : (v w : View) (t : ℕ) (memory : Type 0) (full : SqlState → Type 0) (damaged : Damage → Type 0) (e : StoreAnswer) → IsIdle v → v.content.next_txn ≤ t → HasCause memory full damaged v.content v w e → IsIdleStill w t e
+idle_still v w t memory full damaged Failed idle fresh cause = tt
+idle_still v w t memory full damaged (Damaged d) idle fresh cause = tt
+idle_still v w t memory full damaged (Full state) idle fresh cause = tt
+idle_still v w t memory full damaged Memory idle fresh cause = (
+  record {
+    none_open = λ u. ap (λ (d : Content). d.changes u) cause.1.content_same ∙ idle.none_open u;
+    none_holds = λ b. ap (λ h. h.pages) (cause.1.everyone b) ∙ idle.none_holds b;
+    described = ap (λ (d : Content). d.columns 1) cause.1.content_same ∙ idle.described;
+  },
+  subst (λ (d : Content). d.next_txn ≤ t) (sym cause.1.content_same) fresh,
+)
+
+-- and a sole transaction is sole
+pub sole_still : (v w : View) (t : ℕ) (memory : Type 0) (full : SqlState → Type 0) (damaged : Damage → Type 0) (e : StoreAnswer) → IsSole v t → HasCause memory full damaged v.content v w e → IsSoleStill w t e
+sole_still v w t memory full damaged Failed sole cause = tt
+sole_still v w t memory full damaged (Damaged d) sole cause = tt
+sole_still v w t memory full damaged (Full state) sole cause = tt
+sole_still v w t memory full damaged Memory sole cause = same_content_sole v w t sole cause.1.content_same (λ b ne. cause.1.everyone b)

@@ -3,6 +3,7 @@
 //! The store tells no crashes, also where the one below it does.
 #![tactic(auto)]
 
+pub mod again;
 pub mod claims;
 pub mod marks;
 pub mod onward;

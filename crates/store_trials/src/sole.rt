@@ -27,7 +27,7 @@ pub fn opens<S: RowStore>(store: &mut S, t: TxnNo) -> bool
 }
 
 /// The actor may be sent onward only so often.
-fn ends<S: RowStore>(store: &S)
+pub fn ends<S: RowStore>(store: &S)
     ensures { IsWithin (S.view store.now) S.most_pages }
 {
     store.law();
@@ -35,7 +35,7 @@ fn ends<S: RowStore>(store: &S)
 }
 
 /// Room is made in table 1.
-fn makes_room<S: RowStore>(store: &mut S, t: TxnNo) -> bool
+pub fn makes_room<S: RowStore>(store: &mut S, t: TxnNo) -> bool
     requires sole { IsSole (S.view store.old) t.0 }
     ensures sole { OnTrue result (IsSole (S.view store.new) t.0) }
     ensures room { OnTrue result (((S.view store.new).actors 1).room ≡ Some 1) }
@@ -79,7 +79,7 @@ pub fn reads<S: RowStore>(store: &mut S, t: TxnNo, rid: RowId, row: &Row, marked
     }
 }
 
-fn shows(read: RowRead, row: &Row, marked: bool) -> bool {
+pub fn shows(read: RowRead, row: &Row, marked: bool) -> bool {
     match read {
         RowRead::Row {
             row: stands,

@@ -1,0 +1,5 @@
+use Rattle.store_trials.proofs.SoleLemmas.{may_hold}
+use Rattle.store_trials.proofs.again.try_read.Goals as goal
+
+pub row-requires-clause-few : goal.row-requires-clause-few
+row-requires-clause-few g c = may_hold (g.S.RowStore.view c.args.store.now) c.args.t.0 c.law.ensures c.requires.sole
