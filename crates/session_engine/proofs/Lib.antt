@@ -1,4 +1,3 @@
-pub mod LookupLemmas
 pub mod StableLemmas
 pub mod QueueLemmas
 pub mod MoveLemmas
