@@ -1,3 +1,4 @@
+pub mod CutLemmas
 pub mod ImagesLemmas
 pub mod LatestLemmas
 pub mod Moving

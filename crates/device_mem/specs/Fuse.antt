@@ -1,11 +1,15 @@
 -- A fuse of a disk.
-use Rattle.std.specs.Prelude.{◌≡◌, ℕ, ◌-◌, Bool, true, false, Option, Some, None}
+use Rattle.std.specs.Prelude.{◌≡◌, ℕ, ◌-◌, Bool, true, false, List, Contains, Option, Some, None}
 use Rattle.device.specs.Counts.{Rises}
 
 -- no writing call is left
 abbrev pub IsBlown : Option ℕ → Type 0
 IsBlown None = ⊥
 IsBlown (Some k) = k ≡ 0
+
+-- a call passes that is neither behind the fuse nor listed by its number
+abbrev pub Passes : Option ℕ → List ℕ → ℕ → Type 0
+Passes fuse listed call = (IsBlown fuse → ⊥) × (Contains listed call → ⊥)
 
 -- what a call leaves of the fuse: a writing call takes one away
 abbrev pub burnt : Bool → Option ℕ → Option ℕ

@@ -1,10 +1,13 @@
 -- What the images of a disk in memory hold.
 use Rattle.std.specs.Prelude.{◌≡◌, ℕ, ◌-◌, ◌≤◌, ◌<◌, ◌==◌, if◌then◌else◌, Bool, true, false, not, List, [], ◌∷◌, ◌++◌, length, drop, Some, None, All, Any}
-use Rattle.device.specs.Disk.{Image, Pages, OnlyPages, OnlyLog}
+use Rattle.device.specs.Disk.{Image, Pages, Segments, OnlyPages, OnlyLog}
 use Rattle.device_mem.specs.declared.call.Call.{Call}
 use Rattle.device_mem.specs.declared.call.Call.TheVariants.{WritePage, SyncPages, DropContainer, WriteLog, SyncLog, DropLog}
 use Rattle.device_mem.specs.declared.disk.MemDisk.{MemDisk}
-use Rattle.device_mem.specs.Calls.{page_of, log_of, may_hold_of, may_log_of, left_of}
+use Rattle.device_mem.specs.declared.log_left.LogLeft.{LogLeft}
+use Rattle.device_mem.specs.declared.log_left.LogLeft.TheVariants.{Lost, Kept, Cut}
+use Rattle.device_mem.specs.Calls.{page_of, log_of, may_hold_of, may_log_of, image_of, left_of}
+use Rattle.device_mem.specs.Cuts.{cuts_of, log_cut}
 
 -- a call that syncs the pages, or else the log
 abbrev pub is_sync : (of_pages : Bool) → Call → Bool
@@ -33,10 +36,16 @@ calls_at m cs = drop (length cs - m) cs
 abbrev pub held_by : List Call → Image
 held_by calls = record { pages = page_of calls; log = log_of calls }
 
--- a disk as a crash left it after these calls, with what wasn't synced of the pages and of the log kept or lost
-pub record Holds (keeps_pages keeps_log : Bool) (calls : List Call) (disk : List Call) : Type 0 where
+-- the log as a crash left it after these calls
+abbrev pub log_left : LogLeft → List Call → Segments
+log_left Lost cs = log_of (synced false cs)
+log_left Kept cs = log_of cs
+log_left (Cut n) cs = log_cut n cs
+
+-- a disk as a crash left it after these calls, with the pages that weren't synced kept or lost, and so much of the log
+pub record Holds (keeps_pages : Bool) (left : LogLeft) (calls : List Call) (disk : List Call) : Type 0 where
   pub pages_are : (c p : ℕ) → page_of disk c p ≡ page_of (surviving true keeps_pages calls) c p
-  pub log_is : (s : ℕ) → log_of disk s ≡ log_of (surviving false keeps_log calls) s
+  pub log_is : (s : ℕ) → log_of disk s ≡ log_left left calls s
 
 -- of this disk a crash leaves what it holds
 abbrev pub IsDurable : List Call → Type 0
@@ -55,23 +64,36 @@ page_after (WriteLog t at b) old c p = old c p
 page_after SyncLog old c p = old c p
 page_after (DropLog t) old c p = old c p
 
--- one image more in a list of images
-pub record Adds (keeps_pages keeps_log : Bool) (calls : List Call) (old new : List MemDisk) : Type 0 where
-  pub disk : MemDisk
-  pub more : new ≡ old ++ disk ∷ []
-  pub holds : Holds keeps_pages keeps_log calls disk.calls
-  pub durable : IsDurable disk.calls
-  pub well : IsWell disk
+-- a disk that a crash now may have left
+pub record IsCrashed (calls : List Call) (d : MemDisk) : Type 0 where
+  pub possible : image_of calls (held_by d.calls)
+  pub durable : IsDurable d.calls
+  pub well : IsWell d
 
--- the four images of a moment
-pub record AddsFour (calls : List Call) (old new : List MemDisk) : Type 0 where
-  pub one : List MemDisk
-  pub two : List MemDisk
-  pub three : List MemDisk
-  pub lost : Adds false false calls old one
-  pub log_kept : Adds false true calls one two
-  pub pages_kept : Adds true false calls two three
-  pub kept : Adds true true calls three new
+-- the last write of the log is cut, at a byte below this one
+abbrev pub IsBelow : ℕ → LogLeft → Type 0
+IsBelow count Lost = ⊥
+IsBelow count Kept = ⊥
+IsBelow count (Cut n) = n < count
+
+-- what is named: the log lost, kept, and with its last write cut at each of its bytes
+abbrev pub IsNamed : List Call → LogLeft → Type 0
+IsNamed calls Lost = Unit {0}
+IsNamed calls Kept = Unit {0}
+IsNamed calls (Cut n) = n < cuts_of calls
+
+-- images more in a list of images, among them those that are named
+pub record Adds (keeps_pages : Bool) (calls : List Call) (Named : LogLeft → Type 0) (old new : List MemDisk) : Type 0 where
+  pub added : List MemDisk
+  pub more : new ≡ old ++ added
+  pub each : All (IsCrashed calls) added
+  pub named : (left : LogLeft) → Named left → Any (λ d. Holds keeps_pages left calls d.calls) added
+
+-- the images of a moment: the pages lost, and kept
+pub record AddsMoment (calls : List Call) (old new : List MemDisk) : Type 0 where
+  pub half : List MemDisk
+  pub lost : Adds false calls (IsNamed calls) old half
+  pub kept : Adds true calls (IsNamed calls) half new
 
 -- a disk that a crash since a moment may have left
 pub record IsLeft (calls : List Call) (since : ℕ) (d : MemDisk) : Type 0 where
@@ -79,7 +101,7 @@ pub record IsLeft (calls : List Call) (since : ℕ) (d : MemDisk) : Type 0 where
   pub durable : IsDurable d.calls
   pub well : IsWell d
 
--- disks that a crash since a moment may have left, among them the four of each moment before another
+-- disks that a crash since a moment may have left, among them of each moment before another those that are named
 pub record AreLeft (calls : List Call) (since until : ℕ) (images : List MemDisk) : Type 0 where
   pub each : All (IsLeft calls since) images
-  pub named : (m : ℕ) → since ≤ m → m < until → (keeps_pages keeps_log : Bool) → Any (λ d. Holds keeps_pages keeps_log (calls_at m calls) d.calls) images
+  pub named : (m : ℕ) → since ≤ m → m < until → (keeps_pages : Bool) (left : LogLeft) → IsNamed (calls_at m calls) left → Any (λ d. Holds keeps_pages left (calls_at m calls) d.calls) images

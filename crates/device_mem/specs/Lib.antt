@@ -1,5 +1,7 @@
 pub mod CallLaws
 pub mod Calls
+pub mod Cuts
+pub mod Databases
 pub mod Fuse
 pub mod Images
 pub mod Latest

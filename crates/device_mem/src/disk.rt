@@ -1,6 +1,6 @@
 //! A disk in memory.
 
-ghost use Rattle.std.specs.Prelude.{◌≡◌, ℕ, [], Some, length, ◌+◌, IfOk};
+ghost use Rattle.std.specs.Prelude.{◌≡◌, ℕ, [], ◌++◌, Some, length, ◌+◌, IfOk, OnOk};
 ghost use Rattle.device_mem.specs.Images.{IsWell, AreLeft};
 
 use crate::call::Call;
@@ -26,7 +26,7 @@ impl MemDisk {
     /// A disk without pages and log, which fails at no call.
     pub fn new(alloc: Global) -> MemDisk
         ensures empty { result.calls ≡ [] }
-        ensures well { result.gauge.faults ≡ 0 }
+        ensures well { IsWell result }
     {
         MemDisk {
             alloc,
@@ -47,8 +47,9 @@ impl MemDisk {
         }
     }
 
-    /// Disks that a crash since a moment may have left. Of each moment since then four are among them: all that wasn't synced of the pages, and
-    /// of the log, kept or lost. Each fails at no call, and another crash leaves what it holds.
+    /// Disks that a crash since a moment may have left. Of each moment since then these are among them: with the pages that weren't synced kept
+    /// or lost, the log with all that wasn't synced lost, with all of it kept, and with its last write cut at each of its bytes. Each fails at
+    /// no call, and another crash leaves what it holds.
     pub fn images(&self, since: u64) -> Result<Images, AllocError>
         ensures { IfOk result (λ i. AreLeft self.now.calls since (length self.now.calls + 1) i.items) }
     {
@@ -59,8 +60,9 @@ impl MemDisk {
 
     /// The calls with these numbers, counted from 0, fail.
     pub fn fail_at(&mut self, calls: &[u64]) -> Result<(), AllocError>
+        ensures ok { OnOk result (self.new.gauge.failing.listed.items ≡ self.old.gauge.failing.listed.items ++ calls.now) }
         ensures same { self.new.calls ≡ self.old.calls }
-        ensures faults { self.new.gauge.faults ≡ self.old.gauge.faults }
+        ensures faults { (self.new.gauge.faults ≡ self.old.gauge.faults) × (self.new.gauge.fuse ≡ self.old.gauge.fuse) × (self.new.gauge.failing.calls ≡ self.old.gauge.failing.calls) }
     {
         self.gauge.list(calls)
     }
@@ -69,7 +71,7 @@ impl MemDisk {
     pub fn fuse(&mut self, k: u64)
         ensures set { self.new.gauge.fuse ≡ Some k }
         ensures same { self.new.calls ≡ self.old.calls }
-        ensures faults { self.new.gauge.faults ≡ self.old.gauge.faults }
+        ensures faults { (self.new.gauge.faults ≡ self.old.gauge.faults) × (self.new.gauge.failing ≡ self.old.gauge.failing) }
     {
         self.gauge.set_fuse(k);
     }

@@ -1,6 +1,6 @@
 //! Which calls of an object are to fail.
 
-ghost use Rattle.std.specs.Prelude.{◌≡◌, ◌≤◌, ℕ, List, [], ◌++◌, OnOk, OnErr, vec_len};
+ghost use Rattle.std.specs.Prelude.{◌≡◌, ◌↔◌, ◌+◌, ◌-◌, ◌^◌, ℕ, List, [], ◌++◌, min, IsTrue, Contains, OnOk, OnErr};
 
 use std::alloc::{AllocError, Global};
 
@@ -14,7 +14,8 @@ pub struct Failing {
 impl Failing {
     /// No call is to fail.
     pub fn new(alloc: Global) -> Failing
-        ensures { result.listed.items ≡ [] }
+        ensures none { result.listed.items ≡ [] }
+        ensures first { result.calls ≡ 0 }
     {
         Failing {
             calls: 0,
@@ -23,12 +24,20 @@ impl Failing {
     }
 
     /// The calls with these numbers are to fail too.
-    pub fn list(&mut self, calls: &[u64]) -> Result<(), AllocError> {
+    pub fn list(&mut self, calls: &[u64]) -> Result<(), AllocError>
+        ensures ok { OnOk result (self.new.listed.items ≡ self.old.listed.items ++ calls.now) }
+        ensures err { OnErr result (self.new.listed.items ≡ self.old.listed.items) }
+        ensures same { self.new.calls ≡ self.old.calls }
+    {
         self.listed.extend_from_slice(calls)
     }
 
     /// One call more: whether it is to fail.
-    pub fn is_next(&mut self) -> bool {
+    pub fn is_next(&mut self) -> bool
+        ensures exact { IsTrue result ↔ Contains self.old.listed.items self.old.calls }
+        ensures counts { self.new.calls ≡ min (self.old.calls + 1) (2 ^ 64 - 1) }
+        ensures same { self.new.listed.items ≡ self.old.listed.items }
+    {
         let call = self.calls;
         self.calls = self.calls.saturating_add(1);
         self.listed.as_slice().contains(&call)

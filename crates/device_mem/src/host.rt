@@ -1,8 +1,11 @@
 //! A host in memory.
 
-ghost use Rattle.std.specs.Prelude.{◌≡◌, ◌==◌, ℕ, List, Some, IfOk, IfSome};
+ghost use Rattle.std.specs.Prelude.{◌≡◌, ◌==◌, ℕ, List, [], ◌++◌, Some, None, if◌then◌else◌, length, ◌<◌, slice_index_or, MatchOption, IfOk, IfSome, OnOk, OnErr};
 ghost use Rattle.std.specs.Cmp.Lexicographic.{pointwise};
+ghost use Rattle.device_mem.specs.Databases.{disk_of, IsNew};
 ghost use Rattle.device_mem.specs.Scripts.{bytes_of};
+ghost use Rattle.device_mem.specs.declared.disk.MemDisk.{MemDisk};
+ghost use Rattle.device_mem.specs.declared.host.Database.{Database};
 
 use crate::disk::MemDisk;
 use crate::failing::Failing;
@@ -79,15 +82,29 @@ fn is_same(a: &[u8], b: &[u8]) -> bool
     a == b
 }
 
-/// The disk that was put last under this name, which is put no more, or a new one.
-fn taken(alloc: Global, databases: &mut Vec<Database>, name: &[u8]) -> MemDisk {
+/// Where the disk of this name stands that was put last.
+fn place(databases: &[Database], name: &[u8]) -> Option<usize>
+    ensures { MatchOption result (disk_of databases.now name.now ≡ None) (λ i. (i < length databases.now) × ((d : Database) → disk_of databases.now name.now ≡ Some (slice_index_or databases.now i d).disk)) }
+{
     for i in 0..databases.len() {
         if is_same(databases[i].name.as_slice(), name) {
-            let Database { name: _name, disk } = databases.remove(i);
-            return disk;
+            return Some(i);
         }
     }
-    MemDisk::new(alloc)
+    None
+}
+
+/// The disk that was put last under this name, which is put no more, or a new one.
+fn taken(alloc: Global, databases: &mut Vec<Database>, name: &[u8]) -> MemDisk
+    ensures { MatchOption (disk_of databases.old.items name.now) (IsNew result) (λ d. result ≡ d) }
+{
+    match place(databases.as_slice(), name) {
+        Some(i) => {
+            let Database { name: _name, disk } = databases.remove(i);
+            disk
+        }
+        None => MemDisk::new(alloc),
+    }
 }
 
 /// A source of the script of this name, if it was put and there is memory for it.
@@ -116,7 +133,10 @@ fn source_of(alloc: Global, script: &Script) -> Result<MemSource, AllocError>
 
 impl MemHost {
     /// A host without scripts that fails at no call.
-    pub fn new(alloc: Global) -> MemHost {
+    pub fn new(alloc: Global) -> MemHost
+        ensures empty { (result.scripts.items ≡ []) × (result.databases.items ≡ []) }
+        ensures well { (result.faults ≡ 0) × (result.failing.listed.items ≡ []) }
+    {
         MemHost {
             alloc,
             databases: Vec::new(alloc),
@@ -127,7 +147,11 @@ impl MemHost {
     }
 
     /// Puts the script of a name, in place of one that stood under it.
-    pub fn put_script(&mut self, name: &str, text: &[u8]) -> Result<(), AllocError> {
+    pub fn put_script(&mut self, name: &str, text: &[u8]) -> Result<(), AllocError>
+        ensures ok { OnOk result ((n : List ℕ) → bytes_of self.new.scripts.items n ≡ (if pointwise (λ a b. a == b) name.now n then Some text.now else bytes_of self.old.scripts.items n)) }
+        ensures err { OnErr result (self.new.scripts.items ≡ self.old.scripts.items) }
+        ensures same { (self.new.faults ≡ self.old.faults) × (self.new.databases ≡ self.old.databases) }
+    {
         let script = Script {
             name: Vec::from_slice(self.alloc, name.as_bytes())?,
             bytes: Vec::from_slice(self.alloc, text)?,
@@ -138,19 +162,28 @@ impl MemHost {
     }
 
     /// Puts the disk of a name, in place of one that stood under it.
-    pub fn put_disk(&mut self, name: &str, disk: MemDisk) -> Result<(), AllocError> {
+    pub fn put_disk(&mut self, name: &str, disk: MemDisk) -> Result<(), AllocError>
+        ensures ok { OnOk result ((n : List ℕ) → disk_of self.new.databases.items n ≡ (if pointwise (λ a b. a == b) name.now n then Some disk else disk_of self.old.databases.items n)) }
+        ensures err { OnErr result (self.new.databases.items ≡ self.old.databases.items) }
+        ensures same { (self.new.faults ≡ self.old.faults) × (self.new.scripts ≡ self.old.scripts) }
+    {
         let name = Vec::from_slice(self.alloc, name.as_bytes())?;
         self.databases.insert(0, Database { name, disk })?;
         Ok(())
     }
 
     /// The calls of `open` and `script` with these numbers, counted from 0, fail.
-    pub fn fail_at(&mut self, calls: &[u64]) -> Result<(), AllocError> {
+    pub fn fail_at(&mut self, calls: &[u64]) -> Result<(), AllocError>
+        ensures ok { OnOk result (self.new.failing.listed.items ≡ self.old.failing.listed.items ++ calls.now) }
+        ensures same { (self.new.faults ≡ self.old.faults) × (self.new.scripts ≡ self.old.scripts) × (self.new.databases ≡ self.old.databases) }
+    {
         self.failing.list(calls)
     }
 
     /// The reads with these numbers, counted from 0, of the script of this name fail. It was put before.
-    pub fn fail_reads(&mut self, name: &str, calls: &[u64]) -> Result<(), AllocError> {
+    pub fn fail_reads(&mut self, name: &str, calls: &[u64]) -> Result<(), AllocError>
+        ensures same { (self.new.faults ≡ self.old.faults) × (self.new.databases ≡ self.old.databases) }
+    {
         for script in self.scripts.iter_mut() {
             if is_same(script.name.as_slice(), name.as_bytes()) {
                 script.failing_reads.extend_from_slice(calls)?;

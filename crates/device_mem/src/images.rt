@@ -2,12 +2,15 @@
 
 ghost use Rattle.std.specs.Prelude.{◌≡◌, ◌≤◌, ◌+◌, ℕ, true, false, [], length, take, reverse, if◌then◌else◌, IfOk, OnOk};
 ghost use Rattle.device_mem.specs.Calls.{page_of, log_of};
-ghost use Rattle.device_mem.specs.Images.{is_sync, synced, surviving, Holds, IsDurable, page_after, Adds, AddsFour, AreLeft};
+ghost use Rattle.device_mem.specs.Cuts.{cuts_of};
+ghost use Rattle.device_mem.specs.Images.{is_sync, synced, surviving, log_left, Holds, IsDurable, IsNamed, IsBelow, page_after, Adds, AddsMoment, AreLeft};
 ghost use Rattle.device_mem.specs.Latest.{log_after};
 
 use crate::call::Call;
 use crate::calls::Calls;
+use crate::cut::{cuts, repeat_log_cut};
 use crate::disk::MemDisk;
+use crate::log_left::LogLeft;
 use std::alloc::{AllocError, Global};
 
 /// Adds a call that changes pages; any other changes nothing.
@@ -34,7 +37,7 @@ fn repeat_on_pages(alloc: Global, to: &mut Calls, call: &Call) -> Result<(), All
 }
 
 /// Adds a call that changes the log; any other changes nothing.
-fn repeat_on_log(alloc: Global, to: &mut Calls, call: &Call) -> Result<(), AllocError>
+pub fn repeat_on_log(alloc: Global, to: &mut Calls, call: &Call) -> Result<(), AllocError>
     ensures log { OnOk result ((s : ℕ) → log_of to.new s ≡ log_after call.now (log_of to.old) s) }
     ensures pages { OnOk result ((c p : ℕ) → page_of to.new c p ≡ page_of to.old c p) }
 {
@@ -64,7 +67,7 @@ fn repeat_pages(alloc: Global, to: &mut Calls, calls: &[Call]) -> Result<(), All
 }
 
 /// Adds the calls that change the log to a list that says nothing of it.
-fn repeat_log(alloc: Global, to: &mut Calls, calls: &[Call]) -> Result<(), AllocError>
+pub fn repeat_log(alloc: Global, to: &mut Calls, calls: &[Call]) -> Result<(), AllocError>
     ensures log { OnOk result (((s : ℕ) → log_of to.old s ≡ []) → (s : ℕ) → log_of to.new s ≡ log_of (reverse calls.now) s) }
     ensures pages { OnOk result ((c p : ℕ) → page_of to.new c p ≡ page_of to.old c p) }
 {
@@ -117,19 +120,36 @@ fn done(calls: &[Call], of_pages: bool, is_kept: bool) -> &[Call]
     &calls[..count_synced(calls, of_pages)]
 }
 
+/// Adds the calls that change the log to a list that says nothing of it, as many of them as a crash leaves.
+fn repeat_left(
+    alloc: Global,
+    to: &mut Calls,
+    calls: &[Call],
+    left: LogLeft,
+) -> Result<(), AllocError>
+    ensures log { OnOk result (((s : ℕ) → log_of to.old s ≡ []) → (s : ℕ) → log_of to.new s ≡ log_left left (reverse calls.now) s) }
+    ensures pages { OnOk result ((c p : ℕ) → page_of to.new c p ≡ page_of to.old c p) }
+{
+    match left {
+        LogLeft::Lost => repeat_log(alloc, to, done(calls, false, false)),
+        LogLeft::Kept => repeat_log(alloc, to, calls),
+        LogLeft::Cut(n) => repeat_log_cut(alloc, to, calls, n),
+    }
+}
+
 /// The calls of a disk that a crash left, of which the next crash leaves what it holds.
 fn image(
     alloc: Global,
     calls: &[Call],
     keeps_pages: bool,
-    keeps_log: bool,
+    left: LogLeft,
 ) -> Result<Calls, AllocError>
-    ensures holds { IfOk result (λ i. Holds keeps_pages keeps_log (reverse calls.now) i) }
+    ensures holds { IfOk result (λ i. Holds keeps_pages left (reverse calls.now) i) }
     ensures durable { IfOk result (λ i. IsDurable i) }
 {
     let mut image = Calls::new(alloc);
     repeat_pages(alloc, &mut image, done(calls, true, keeps_pages))?;
-    repeat_log(alloc, &mut image, done(calls, false, keeps_log))?;
+    repeat_left(alloc, &mut image, calls, left)?;
     image.add(Call::SyncPages)?;
     image.add(Call::SyncLog)?;
     Ok(image)
@@ -139,24 +159,51 @@ fn push_image(
     alloc: Global,
     calls: &[Call],
     keeps_pages: bool,
-    keeps_log: bool,
+    left: LogLeft,
     images: &mut Vec<MemDisk>,
 ) -> Result<(), AllocError>
-    ensures { OnOk result (Adds keeps_pages keeps_log (reverse calls.now) images.old.items images.new.items) }
+    ensures { OnOk result (Adds keeps_pages (reverse calls.now) (λ l. l ≡ left) images.old.items images.new.items) }
 {
-    let disk = MemDisk::made(alloc, image(alloc, calls, keeps_pages, keeps_log)?);
+    let disk = MemDisk::made(alloc, image(alloc, calls, keeps_pages, left)?);
     images.push(disk)?;
     Ok(())
 }
 
+/// Adds the images whose last write of the log was cut at each of its bytes.
+fn push_cuts(
+    alloc: Global,
+    calls: &[Call],
+    keeps_pages: bool,
+    images: &mut Vec<MemDisk>,
+) -> Result<(), AllocError>
+    ensures { OnOk result (Adds keeps_pages (reverse calls.now) (IsBelow (cuts_of (reverse calls.now))) images.old.items images.new.items) }
+{
+    for n in 0..cuts(calls) {
+        push_image(alloc, calls, keeps_pages, LogLeft::Cut(n), images)?;
+    }
+    Ok(())
+}
+
+/// Adds the images in which unsynced pages are kept, or lost.
+fn push_kinds(
+    alloc: Global,
+    calls: &[Call],
+    keeps_pages: bool,
+    images: &mut Vec<MemDisk>,
+) -> Result<(), AllocError>
+    ensures { OnOk result (Adds keeps_pages (reverse calls.now) (IsNamed (reverse calls.now)) images.old.items images.new.items) }
+{
+    push_image(alloc, calls, keeps_pages, LogLeft::Lost, images)?;
+    push_cuts(alloc, calls, keeps_pages, images)?;
+    push_image(alloc, calls, keeps_pages, LogLeft::Kept, images)
+}
+
 /// Adds what a crash after these calls may have left.
 fn push_moment(alloc: Global, calls: &[Call], images: &mut Vec<MemDisk>) -> Result<(), AllocError>
-    ensures { OnOk result (AddsFour (reverse calls.now) images.old.items images.new.items) }
+    ensures { OnOk result (AddsMoment (reverse calls.now) images.old.items images.new.items) }
 {
-    push_image(alloc, calls, false, false, images)?;
-    push_image(alloc, calls, false, true, images)?;
-    push_image(alloc, calls, true, false, images)?;
-    push_image(alloc, calls, true, true, images)
+    push_kinds(alloc, calls, false, images)?;
+    push_kinds(alloc, calls, true, images)
 }
 
 /// Adds what a crash at each moment since this one may have left.

@@ -5,12 +5,14 @@
 
 pub mod call;
 mod calls;
+mod cut;
 pub mod disk;
 pub mod failing;
 mod gauge;
 pub mod host;
 mod images;
 mod latest;
+pub mod log_left;
 pub mod page_bytes;
 mod segments;
 pub mod sink;

@@ -71,14 +71,16 @@ impl MemSink {
 
     /// The writes with these numbers, counted from 0, fail.
     pub fn fail_at(&mut self, calls: &[u64]) -> Result<(), AllocError>
-        ensures same { self.new.bytes.items ≡ self.old.bytes.items }
+        ensures ok { OnOk result (self.new.failing.listed.items ≡ self.old.failing.listed.items ++ calls.now) }
+        ensures same { (self.new.bytes ≡ self.old.bytes) × (self.new.faults ≡ self.old.faults) × (self.new.nones ≡ self.old.nones) }
     {
         self.failing.list(calls)
     }
 
     /// The writes with these numbers, counted from 0, take no byte.
     pub fn take_none_at(&mut self, calls: &[u64]) -> Result<(), AllocError>
-        ensures same { self.new.bytes.items ≡ self.old.bytes.items }
+        ensures ok { OnOk result (self.new.taking_none.listed.items ≡ self.old.taking_none.listed.items ++ calls.now) }
+        ensures same { (self.new.bytes ≡ self.old.bytes) × (self.new.faults ≡ self.old.faults) × (self.new.nones ≡ self.old.nones) }
     {
         self.taking_none.list(calls)
     }

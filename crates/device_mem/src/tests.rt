@@ -70,3 +70,31 @@ fn half_of_the_images_have_a_page_that_was_not_synced(rt: HostRuntime) {
         assert!(rt; having_page(&mut images) == 2);
     }
 }
+
+/// How many of these disks have so many bytes of the log, of these.
+fn having_bytes(images: &mut Images, n: usize, text: [u8; 5]) -> usize {
+    let mut found: usize = 0;
+    for image in images.iter_mut() {
+        let mut bytes = [0; 5];
+        if image.log_read(1, 0, &mut bytes) == Ok(n) && bytes == text {
+            found = found.saturating_add(1);
+        }
+    }
+    found
+}
+
+#[test]
+fn last_write_of_the_log_is_cut_at_each_byte(rt: HostRuntime) {
+    let mut disk = MemDisk::new(rt.alloc());
+    assert!(rt; disk.log_write(1, 0, &[1, 2, 3]).is_ok());
+    assert!(rt; disk.log_sync().is_ok());
+    assert!(rt; disk.log_write(1, 3, &[4, 5]).is_ok());
+    let images = disk.images(3);
+    assert!(rt; images.is_ok());
+    if let Ok(mut images) = images {
+        assert!(rt; images.len() == 8);
+        assert!(rt; having_bytes(&mut images, 3, [1, 2, 3, 0, 0]) == 4);
+        assert!(rt; having_bytes(&mut images, 4, [1, 2, 3, 4, 0]) == 2);
+        assert!(rt; having_bytes(&mut images, 5, [1, 2, 3, 4, 5]) == 2);
+    }
+}

@@ -1,6 +1,6 @@
 use Rattle.std.proofs.Common.{◌≤◌, ◌+◌, List, length, subst, arith}
 use Rattle.device_mem.specs.declared.call.Call.{Call}
-use Rattle.device_mem.specs.Images.{AddsFour}
+use Rattle.device_mem.specs.Images.{AddsMoment}
 use Rattle.device_mem.proofs.ImagesLemmas.{moment-turn}
 use Rattle.device_mem.proofs.images.push_moments.Goals as goal
 
@@ -10,6 +10,6 @@ loop-m-preserved c =
     let early : c.args.since ≤ c.loop-m.m + 1 = omega (arith, c.loop-m.invariant.0) in (
       early,
       λ none. moment-turn c.args.calls.now c.args.since c.loop-m.m c.loop-m.images.items c.push_moment.new.images.items c.loop-m.invariant.0 late
-          (subst (λ (x : List Call). AddsFour x c.loop-m.images.items c.push_moment.new.images.items) (c.first.ensures late) c.in_ok-push_moment.ensures)
+          (subst (λ (x : List Call). AddsMoment x c.loop-m.images.items c.push_moment.new.images.items) (c.first.ensures late) c.in_ok-push_moment.ensures)
           (c.loop-m.invariant.1 none),
     )
