@@ -1,14 +1,20 @@
 -- What a force and an append do to the current segment.
-use Rattle.std.proofs.Common.{◌≡◌, ◌+◌, ◌-◌, ◌≤◌, ℕ, List, [], ◌++◌, length, take, drop, replicate, refl, inl, sym, ap, ◌∙◌, arith, append-nil, append_assoc, length-append, length-drop}
+use Rattle.std.proofs.Common.{◌≡◌, ◌+◌, ◌-◌, ◌≤◌, ◌<◌, ℕ, List, [], ◌++◌, length, take, drop, replicate, refl, inl, inr, sym, ap, ◌∙◌, arith, append-nil, append_assoc, length-append, length-drop}
 use Rattle.std.proofs.lemmas.List.{take_at, drop_all, take-take, take-append-le, length-take-le}
-use Rattle.std.specs.Prelude.{Result, Ok, Err, OnOk}
+use Rattle.std.specs.Prelude.{Result, Ok, Err, OnOk, Option, Some, None}
 use Rattle.dby_types.specs.declared.number.Lsn.{Lsn}
-use Rattle.log_records.specs.Format.{stored_record}
-use Rattle.log_records.specs.Rules.{IsRecord}
+use Rattle.log_records.specs.Content.{LogBody, LogRecord}
+use Rattle.log_records.specs.Content.LogBody.{change, compensation, split, grow, commit, rolled_back, checkpoint, next_segment, purge}
+use Rattle.log_records.specs.Fields.{fields_len}
+use Rattle.log_records.specs.Format.{body_fields, size_of, stored_record}
+use Rattle.log_records.specs.Rules.{IsBack, IsBody, IsLegal, IsRecord, last_of}
 use Rattle.log_records.proofs.WholeLemmas.{length-stored}
 use Rattle.device.specs.Disk.{Segments, MayLog, SegmentIs, OnlyLog, written_at}
 use Rattle.log_file.specs.declared.file.LogFile.{LogFile}
-use Rattle.log_file.specs.Tail.{pending, end_of, IsOn, tail, next_of, next_place, IsNext, Grows, Left}
+use Rattle.log_file.specs.Append.{EndsWith}
+use Rattle.log_file.specs.List.{follower, place_behind}
+use Rattle.log_file.specs.Tail.{pending, end_of, IsOn, tail, next_of, IsNext, Grows, Left}
+use Rattle.log_file.proofs.Standing.{same_place}
 
 -- bytes written at a place that the segment reaches
 front : (old : List ℕ) (at : ℕ) (bytes : List ℕ) (n : ℕ) → at ≤ length old → n ≡ length bytes → take (at + n) (written_at old at bytes) ≡ take at old ++ bytes
@@ -57,43 +63,72 @@ pending_back b old bytes used more len e =
     sym (take-take used (used + more) b (omega arith)) ∙ ap (take used) e ∙ take_at old bytes used len
 
 -- after a force there is room for a record, at the same place
-pub room_after : {T E : Type 0} (r : Result T E) (old new : LogFile) (size : ℕ) → size ≤ 20000 → OnOk r ((new.forced ≡ old.forced + old.used) × (new.used ≡ 0) × (new.segment ≡ old.segment) × (new.point ≡ old.point))
-    → OnOk r ((new.used + size + 44 ≤ 65536) × (end_of new ≡ end_of old))
+pub room_after : {T E : Type 0} (r : Result T E) (old new : LogFile) (size : ℕ) → size ≤ 20000 → OnOk r ((new.forced ≡ old.forced + old.used) × (new.used ≡ 0) × (new.segment ≡ old.segment) × (new.point ≡ old.point) × (new.at ≡ old.at))
+    → OnOk r ((new.used + size + 44 ≤ 65536) × (end_of new ≡ end_of old) × (new.point ≡ old.point) × (new.at ≡ old.at))
 room_after (Ok x) old new size small h =
     let place : new.forced + new.used ≡ old.forced + old.used = omega (arith, h.0, h.1) in
-    (omega (arith, h.1, small), same_lsn (end_of new) (end_of old) h.2 place)
+    (omega (arith, h.1, small), same_lsn (end_of new) (end_of old) h.2 place, h.3, h.4)
   where
     same_lsn : (p q : Lsn) → p.segment ≡ q.segment → p.offset ≡ q.offset → p ≡ q
     same_lsn p q e f = ap (λ (m : ℕ). record { segment = m; offset = p.offset }) e ∙ ap (λ (m : ℕ). record { segment = q.segment; offset = m }) f
 room_after (Err e) old new size small h = tt
 
--- the segment was left by the record that names the next one
-pub left_is : (old : LogFile) (before after : Segments) (part : List ℕ) → IsOn old before → IsRecord (end_of old) (next_of (old.segment + 1)) → part ≡ pending old ++ stored_record (end_of old) (next_of (old.segment + 1))
-    → SegmentIs old.segment (written_at (before old.segment) old.forced part) before after → Left old before after
-left_is old before after part on is ep wrote =
+-- a record that names a segment has 44 bytes
+pub named_size : (b : LogBody) (next : ℕ) → follower b ≡ Some next → 40 + fields_len (body_fields b) ≡ 44
+named_size (change b) next e = absurd (grind (arith, e))
+named_size (compensation n b) next e = absurd (grind (arith, e))
+named_size (split c n ps) next e = absurd (grind (arith, e))
+named_size (grow c p k) next e = absurd (grind (arith, e))
+named_size commit next e = absurd (grind (arith, e))
+named_size rolled_back next e = absurd (grind (arith, e))
+named_size (checkpoint m) next e = absurd (grind (arith, e))
+named_size (next_segment s) next e = refl
+named_size (purge c p i) next e = absurd (grind (arith, e))
+
+-- the segment was left by a record that names the one that follows
+pub left_is : (old : LogFile) (r : LogRecord) (before after : Segments) (part : List ℕ) → size_of r ≡ 44 → IsOn old before → IsRecord (end_of old) r → part ≡ pending old ++ stored_record (end_of old) r
+    → SegmentIs old.segment (written_at (before old.segment) old.forced part) before after → Left old r before after
+left_is old r before after part size on is ep wrote =
     let some : length (pending old) ≡ old.used = length-take-le old.used old.buffer.items (omega (arith, old.used_is, old.buffer_is)) in
     let len : old.used + 44 ≡ length part =
-    omega (arith, ap length ep, length-append (pending old) (stored_record (end_of old) (next_of (old.segment + 1))), some, length-stored (end_of old) (next_of (old.segment + 1))) in
+    omega (arith, ap length ep, length-append (pending old) (stored_record (end_of old) r), some, length-stored (end_of old) r, size) in
     let place : old.forced + old.used + 44 ≡ old.forced + (old.used + 44) = omega arith in
     record {
       record_is = is;
       bytes = ap (λ (n : ℕ). take n (after old.segment)) place ∙ ap (take (old.forced + (old.used + 44))) wrote.0 ∙ front (before old.segment) old.forced part (old.used + 44) on len
           ∙ ap (λ (l : List ℕ). take old.forced (before old.segment) ++ l) ep
-          ∙ sym (append_assoc (take old.forced (before old.segment)) (pending old) (stored_record (end_of old) (next_of (old.segment + 1))));
+          ∙ sym (append_assoc (take old.forced (before old.segment)) (pending old) (stored_record (end_of old) r));
       others = wrote.1;
     }
 
 -- and nothing else may be left of it
-pub leaves : {T E : Type 0} (r : Result T E) (old : LogFile) (before after : Segments) (may_after : MayLog) (part : List ℕ) → IsOn old before → IsRecord (end_of old) (next_of (old.segment + 1))
-    → part ≡ pending old ++ stored_record (end_of old) (next_of (old.segment + 1)) → OnOk r (SegmentIs old.segment (written_at (before old.segment) old.forced part) before after × OnlyLog after may_after) → OnOk r (Left old before after × OnlyLog after may_after)
-leaves (Ok x) old before after may_after part on is ep h = (left_is old before after part on is ep h.0, h.1)
-leaves (Err e) old before after may_after part on is ep h = tt
+pub leaves : {T E : Type 0} (res : Result T E) (old : LogFile) (r : LogRecord) (before after : Segments) (may_after : MayLog) (part : List ℕ) → size_of r ≡ 44 → IsOn old before → IsRecord (end_of old) r
+    → part ≡ pending old ++ stored_record (end_of old) r → OnOk res (SegmentIs old.segment (written_at (before old.segment) old.forced part) before after × OnlyLog after may_after) → OnOk res (Left old r before after × OnlyLog after may_after)
+leaves (Ok x) old r before after may_after part size on is ep h = (left_is old r before after part size on is ep h.0, h.1)
+leaves (Err e) old r before after may_after part size on is ep h = tt
 
 -- the end of a log whose segment was begun
-pub next_end : (old mid : LogFile) → IsNext old mid → mid.used ≡ 0 → end_of mid ≡ next_place old
-next_end old mid n u =
-    let off : mid.forced + mid.used ≡ 0 = omega (arith, n.forced_is, u) in
-    ap (λ (m : ℕ). record { segment = m; offset = mid.forced + mid.used }) n.segment_is ∙ ap (λ (m : ℕ). record { segment = old.segment + 1; offset = m }) off
+pub next_end : (next : ℕ) (old mid : LogFile) → IsNext next old mid → end_of mid ≡ record { segment = next; offset = 0 }
+next_end next old mid n =
+    let off : mid.forced + mid.used ≡ 0 = omega (arith, n.forced_is, n.used_is) in
+    ap (λ (m : ℕ). record { segment = m; offset = mid.forced + mid.used }) n.segment_is ∙ ap (λ (m : ℕ). record { segment = next; offset = m }) off
+
+-- where the log ends behind a record that was put
+pub put_ends : (old mid new : LogFile) (at : Lsn) (r : LogRecord) → follower r.body ≡ None → at ≡ end_of mid → mid.forced + mid.used + size_of r ≤ 16777216 → new.segment ≡ mid.segment → new.forced ≡ mid.forced → new.used ≡ mid.used + size_of r
+    → new.point ≡ old.point → new.at ≡ old.at → EndsWith old new at r
+put_ends old mid new at r plain e room es ef eu ep ea = record {
+  end_is = sym (ap (λ (o : Option ℕ). place_behind at o (size_of r)) plain ∙ ap (λ (p : Lsn). place_behind p None (size_of r)) e ∙ same_place (place_behind (end_of mid) None (size_of r)) (end_of new) (sym es) (omega (arith, room, ef, eu)));
+  point_is = ep;
+  at_is = ea;
+}
+
+-- and behind one that names a segment
+pub named_ends : (old new : LogFile) (at : Lsn) (r : LogRecord) (next : ℕ) → follower r.body ≡ Some next → IsNext next old new → EndsWith old new at r
+named_ends old new at r next names n = record {
+  end_is = next_end next old new n ∙ sym (ap (λ (o : Option ℕ). place_behind at o (size_of r)) names);
+  point_is = n.point_is;
+  at_is = n.at_is;
+}
 
 -- the record that names the next segment is one at the log's end
 pub next_is_record : (l : LogFile) → IsRecord (end_of l) (next_of (l.segment + 1))
@@ -103,3 +138,41 @@ next_is_record l = record {
       (omega arith, (omega (arith, l.segment_is), (omega (arith, l.room_is), (omega arith, (omega arith, (omega arith, (omega arith, (omega arith, (omega arith, (omega arith, tt))))))))));
   body_fits = (omega (arith, l.segment_is), tt);
 }
+
+-- what stands before a place stands before a later one
+later_back : (a at to : Lsn) → at.segment < to.segment → IsBack a at → IsBack a to
+later_back a at to lt (inl none) = inl none
+later_back a at to lt (inr (inl x)) = inr (inl (omega (arith, x, lt)))
+later_back a at to lt (inr (inr x)) = inr (inl (omega (arith, x.0, lt)))
+
+-- the values of a record keep the rules at a later place too, unless it names a segment
+later_body : (b : LogBody) (at to : Lsn) → at.segment < to.segment → follower b ≡ None → IsBody at b → IsBody to b
+later_body (change b) at to lt e h = h
+later_body (compensation n b) at to lt e h = (later_back n at to lt h.0, h.1)
+later_body (split c n ps) at to lt e h = h
+later_body (grow c p k) at to lt e h = h
+later_body commit at to lt e h = h
+later_body rolled_back at to lt e h = h
+later_body (checkpoint m) at to lt e h = record {
+  next_container_is = h.next_container_is;
+  next_txn_is = h.next_txn_is;
+  lengths = h.lengths;
+  each = λ i below. let o = h.each i below in (o.0, later_back (last_of m.txns i) at to lt o.1);
+}
+later_body (next_segment s) at to lt e h = absurd (grind (arith, e))
+later_body (purge c p i) at to lt e h = h
+
+pub later_legal : (r : LogRecord) (at to : Lsn) → at.segment < to.segment → follower r.body ≡ None → IsLegal at r → IsLegal to r
+later_legal r at to lt e h = record { txn_is = h.txn_is; back_is = later_back r.back at to lt h.back_is; body_is = later_body r.body at to lt e h.body_is }
+
+-- a record that names a segment names a later one
+pub names_later : (b : LogBody) (at : Lsn) (next : ℕ) → follower b ≡ Some next → IsBody at b → at.segment < next
+names_later (change b) at next e h = absurd (grind (arith, e))
+names_later (compensation n b) at next e h = absurd (grind (arith, e))
+names_later (split c n ps) at next e h = absurd (grind (arith, e))
+names_later (grow c p k) at next e h = absurd (grind (arith, e))
+names_later commit at next e h = absurd (grind (arith, e))
+names_later rolled_back at next e h = absurd (grind (arith, e))
+names_later (checkpoint m) at next e h = absurd (grind (arith, e))
+names_later (next_segment s) at next e h = let same : s ≡ next = grind (arith, e) in omega (arith, same, h)
+names_later (purge c p i) at next e h = absurd (grind (arith, e))

@@ -3,7 +3,7 @@ use Rattle.std.proofs.Common.{◌≡◌, ◌+◌, ◌-◌, ◌≤◌, ◌<◌, �
 use Rattle.std.specs.Prelude.{◌⊎◌, min, Result, Ok, Err, IfOk}
 use Rattle.device.specs.declared.Failed.{Failed}
 use Rattle.std.proofs.lemmas.Bool.{cases_eq, cases_lt}
-use Rattle.std.proofs.lemmas.List.{length-take-le, take_min, drop-append-le, length-drop, length-take, take-take, take-append-drop}
+use Rattle.std.proofs.lemmas.List.{drop_all, length-take-le, take_min, drop-append-le, length-drop, length-take, take-take, take-append-drop}
 use Rattle.dby_bytes.specs.Numbers.{number_at, number_of}
 use Rattle.dby_bytes.proofs.NumbersLemmas.{number_of-append}
 use Rattle.dby_types.specs.declared.number.Lsn.{Lsn}
@@ -19,7 +19,7 @@ use Rattle.log_records.proofs.FieldLemmas.{length-field_bytes}
 use Rattle.log_records.proofs.OneLemmas.{one_record}
 use Rattle.log_records.proofs.WholeLemmas.{begins_whole}
 use Rattle.log_file.specs.declared.file.LogFile.{LogFile}
-use Rattle.log_file.specs.List.{Bytes, on_disk, in_log, StandsAt, behind, Reads}
+use Rattle.log_file.specs.List.{Bytes, on_disk, in_buffer, in_log, StandsAt, behind, Reads}
 use Rattle.log_file.specs.Reading.{IsPart, Judges, HasRead, Finds, Gives}
 use Rattle.log_file.specs.Tail.{pending, IsOn, Same}
 use Rattle.log_file.proofs.Standing.{stands_as, bytes_of_begins, long_enough, same_part}
@@ -159,3 +159,23 @@ pub fetched : (r : Result ℕ Failed) (l : LogFile) (log : Segments) (at : Lsn) 
     → IfOk r (λ k. IsPart (in_log l log at) items n k)
 fetched (Ok k) l log at part items n m on es lt em ep p = subst (λ (x : List ℕ). IsPart (in_log l log at) x n k) (sym ep) (part_forced l log at part n m k on es lt em p)
 fetched (Err e) l log at part items n m on es lt em ep p = tt
+
+-- what is read of bytes is read of the same bytes
+pub reads_same : (b c : Bytes) (at : Lsn) (rs : List LogRecord) → ((p : Lsn) → c p ≡ b p) → Reads b at rs → Reads c at rs
+reads_same b c at [] same h = λ r s. h r (s.0, subst (λ (x : List ℕ). Begins at x r s.0) (same at) s.1)
+reads_same b c at (r ∷ rs) same h = ((h.0.0, subst (λ (x : List ℕ). Begins at x r h.0.0) (sym (same at)) h.0.1), reads_same b c (behind at r) rs same h.1)
+
+pub gives_same : (b c : Bytes) (rs : List LogRecord) (new : LogFile) → ((p : Lsn) → c p ≡ b p) → Gives b rs new → Gives c rs new
+gives_same b c [] new same h = (h.0, reads_same b c new.at [] same h.1)
+gives_same b c (r ∷ rs) new same h = (h.0, reads_same b c new.at rs same h.1)
+
+-- a log without bytes in a segment without bytes reads what the disk has
+pub new-reads : (l : LogFile) (log : Segments) (segment : ℕ) → l.segment ≡ segment → l.forced ≡ 0 → l.used ≡ 0 → log segment ≡ [] → (at : Lsn) → in_log l log at ≡ on_disk log at
+new-reads l log segment es ef eu none at = elim (cases_eq at.segment l.segment) [
+  | inl e ↦
+      let here : in_log l log at ≡ in_buffer l at = in_kept l log at e (omega (arith, ef)) in
+      let empty : pending l ≡ [] = ap (λ (k : ℕ). take k l.buffer.items) eu in
+      let bytes : log at.segment ≡ [] = ap log (e ∙ es) ∙ none in
+      here ∙ ap (drop (at.offset - l.forced)) empty ∙ drop_all (at.offset - l.forced) [] (omega arith) ∙ sym (ap (drop at.offset) bytes ∙ drop_all at.offset [] (omega arith))
+  | inr ne ↦ in_other l log at ne
+]

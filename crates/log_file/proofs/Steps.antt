@@ -1,6 +1,6 @@
 -- The log's list, and what a crash leaves of it, after each call.
 use Rattle.std.proofs.Common.{◌≡◌, ◌+◌, ◌-◌, ◌≤◌, ◌<◌, ℕ, List, [], ◌∷◌, ◌++◌, length, take, drop, refl, sym, ap, subst, ◌∙◌, arith, append_assoc, append-nil, length-append}
-use Rattle.std.specs.Prelude.{None, Result, Ok, Err, OnOk}
+use Rattle.std.specs.Prelude.{Option, Some, None, Result, Ok, Err, OnOk}
 use Rattle.std.proofs.lemmas.List.{take_all, drop_all, take_at, drop_at, take-take, length-take, length-take-le}
 use Rattle.dby_types.specs.declared.number.Lsn.{Lsn}
 use Rattle.device.specs.Disk.{Segments, MayLog, SameLog, OnlyLog, NoNewLog}
@@ -9,9 +9,10 @@ use Rattle.log_records.specs.Format.{size_of, stored_record}
 use Rattle.log_records.specs.Rules.{IsRecord}
 use Rattle.log_records.proofs.WholeLemmas.{length-stored}
 use Rattle.log_file.specs.declared.file.LogFile.{LogFile}
-use Rattle.log_file.specs.Tail.{pending, end_of, tail, IsOn, next_of, Left, IsNext, Same, Grows}
-use Rattle.log_file.specs.List.{on_disk, in_buffer, StandsAt, follower, behind, Runs, forced_of, IsLog}
+use Rattle.log_file.specs.Tail.{pending, end_of, tail, IsOn, Left, IsNext, Same, Grows}
+use Rattle.log_file.specs.List.{on_disk, in_buffer, StandsAt, follower, place_behind, behind, Runs, forced_of, IsLog}
 use Rattle.log_file.specs.Crash.{IsLeft, KeepsForced, Stands, Stays, Forces, Holds, Gains}
+use Rattle.log_file.proofs.Growing.{named_size, names_later}
 use Rattle.log_file.proofs.Standing.{same_place, stands_as, stands_same, same_part}
 use Rattle.log_file.proofs.Runs.{runs_to, runs_push}
 use Rattle.log_file.proofs.Lists.{pending_len, forced_stand, forced_list, put_list, all_stand}
@@ -86,15 +87,18 @@ puts old new log may_log r is plain room es ef eu ep from rs n h = record {
 }
 
 -- the next segment begun
-pub begins_next : (old new : LogFile) (before after : Segments) (may_before may_after : MayLog) → (IsOn old before → Left old before after × OnlyLog after may_after) → IsNext old new → new.used ≡ 0
-    → (from : Lsn) (rs : List LogRecord) (n : ℕ) → Stands old before may_before from rs n → Stands new after may_after from (rs ++ next_of (old.segment + 1) ∷ []) (length (rs ++ next_of (old.segment + 1) ∷ []))
-begins_next old new before after may_before may_after leaves next eu from rs n h = record { list = list; safe = only_left new after may_after (leaves h.list.is_on).1 list.fresh }
+pub begins_next : (named : LogRecord) (seg : ℕ) (old new : LogFile) (before after : Segments) (may_before may_after : MayLog) → follower named.body ≡ Some seg → (IsOn old before → Left old named before after × OnlyLog after may_after) → IsNext seg old new
+    → (from : Lsn) (rs : List LogRecord) (n : ℕ) → Stands old before may_before from rs n → Stands new after may_after from (rs ++ named ∷ []) (length (rs ++ named ∷ []))
+begins_next named seg old new before after may_before may_after names leaves next from rs n h = record { list = list; safe = only_left new after may_after (leaves h.list.is_on).1 list.fresh }
   where
-    left : Left old before after
+    left : Left old named before after
     left = (leaves h.list.is_on).0
 
-    named : LogRecord
-    named = next_of (old.segment + 1)
+    size : size_of named ≡ 44
+    size = named_size named.body seg names
+
+    later : old.segment < seg
+    later = names_later named.body (end_of old) seg names left.record_is.legal.body_is
 
     all : List LogRecord
     all = rs ++ named ∷ []
@@ -106,7 +110,7 @@ begins_next old new before after may_before may_after leaves next eu from rs n h
     tail_len = length-append (take old.forced (before old.segment)) (pending old) ∙ omega (arith, length-take-le old.forced (before old.segment) h.list.is_on, pending_len old)
 
     stored_len : length (stored_record (end_of old) named) ≡ 44
-    stored_len = length-stored (end_of old) named
+    stored_len = length-stored (end_of old) named ∙ size
 
     front : take (old.forced + old.used) (after old.segment) ≡ tail old before
     front =
@@ -124,10 +128,10 @@ begins_next old new before after may_before may_after leaves next eu from rs n h
         ∙ ap (take 44) (drop_at (tail old before) (stored_record (end_of old) named) (old.forced + old.used) tail_len) ∙ take_all 44 (stored_record (end_of old) named) (omega (arith, stored_len))
 
     stands : StandsAt (on_disk after) (end_of old) named
-    stands = (drop (size_of named) (on_disk after (end_of old)), stands_as (end_of old) named (on_disk after (end_of old)) left.record_is last)
+    stands = (drop (size_of named) (on_disk after (end_of old)), stands_as (end_of old) named (on_disk after (end_of old)) left.record_is (ap (λ (k : ℕ). take k (on_disk after (end_of old))) size ∙ last))
 
     start : behind (end_of old) named ≡ forced_of new
-    start = same_place (behind (end_of old) named) (forced_of new) (sym next.segment_is) (sym next.forced_is)
+    start = ap (λ (o : Option ℕ). place_behind (end_of old) o (size_of named)) names ∙ same_place (place_behind (end_of old) (Some seg) (size_of named)) (forced_of new) (sym next.segment_is) (sym next.forced_is)
 
     forced : Runs (on_disk after) from all (forced_of new)
     forced = subst (λ (p : Lsn). Runs (on_disk after) from all p) start (runs_push (on_disk after) from (end_of old) rs named (all_stand old before after from rs n h.list front earlier) stands)
@@ -137,8 +141,8 @@ begins_next old new before after may_before may_after leaves next eu from rs n h
       within = omega arith;
       is_on = omega (arith, next.forced_is);
       forced_is = subst (λ (xs : List LogRecord). Runs (on_disk after) from xs (forced_of new)) (sym (take_all (length all) all (omega arith))) forced;
-      kept_is = subst (λ (xs : List LogRecord). Runs (in_buffer new) (forced_of new) xs (end_of new)) (sym (drop_all (length all) all (omega arith))) (same_place (forced_of new) (end_of new) refl (omega (arith, eu)));
-      fresh = λ s lt. left.others s (λ e. omega (arith, lt, e, next.segment_is)) ∙ h.list.fresh s (omega (arith, lt, next.segment_is));
+      kept_is = subst (λ (xs : List LogRecord). Runs (in_buffer new) (forced_of new) xs (end_of new)) (sym (drop_all (length all) all (omega arith))) (same_place (forced_of new) (end_of new) refl (omega (arith, next.used_is)));
+      fresh = λ s lt. left.others s (λ e. omega (arith, lt, e, next.segment_is, later)) ∙ h.list.fresh s (omega (arith, lt, next.segment_is, later));
     }
 
 -- nothing changed
@@ -151,20 +155,20 @@ holds (Ok x) old new before after may_before may_after f = λ from rs n h. (leng
 holds (Err e) old new before after may_before may_after f = tt
 
 -- a segment that was left is left still
-pub left_still : (old : LogFile) (before mid after : Segments) → SameLog mid after → Left old before mid → Left old before after
-left_still old before mid after still left = record {
+pub left_still : (old : LogFile) (r : LogRecord) (before mid after : Segments) → SameLog mid after → Left old r before mid → Left old r before after
+left_still old r before mid after still left = record {
   record_is = left.record_is;
   bytes = ap (take (old.forced + old.used + 44)) (still old.segment) ∙ left.bytes;
   others = λ s ne. still s ∙ left.others s ne;
 }
 
--- the list gains the record that names the next segment
-pub gains_next : (old new : LogFile) (before mid after : Segments) (may_before may_mid may_after : MayLog) → (IsOn old before → Left old before mid × OnlyLog mid may_mid) → SameLog mid after → NoNewLog may_mid may_after → IsNext old new → new.used ≡ 0
-    → Gains (next_of (old.segment + 1) ∷ []) old new before after may_before may_after
-gains_next old new before mid after may_before may_mid may_after leaves still quiet next eu = λ from rs n h. (
-  length (rs ++ next_of (old.segment + 1) ∷ []),
-  omega (arith, h.list.within, length-append rs (next_of (old.segment + 1) ∷ [])),
-  begins_next old new before after may_before may_after (λ on. (left_still old before mid after still (leaves on).0, λ s l m. (leaves on).1 s l (quiet s l m) ∙ sym (still s))) next eu from rs n h,
+-- the list gains the record that names the segment that follows
+pub gains_next : (r : LogRecord) (next : ℕ) (old new : LogFile) (before mid after : Segments) (may_before may_mid may_after : MayLog) → follower r.body ≡ Some next → (IsOn old before → Left old r before mid × OnlyLog mid may_mid) → SameLog mid after
+    → NoNewLog may_mid may_after → IsNext next old new → Gains (r ∷ []) old new before after may_before may_after
+gains_next r next old new before mid after may_before may_mid may_after names leaves still quiet begun = λ from rs n h. (
+  length (rs ++ r ∷ []),
+  omega (arith, h.list.within, length-append rs (r ∷ [])),
+  begins_next r next old new before after may_before may_after names (λ on. (left_still old r before mid after still (leaves on).0, λ s l m. (leaves on).1 s l (quiet s l m) ∙ sym (still s))) begun from rs n h,
 )
 
 -- and then another one

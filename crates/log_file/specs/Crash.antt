@@ -1,5 +1,5 @@
 -- What a crash leaves of the log, and what is read of it then.
-use Rattle.std.specs.Prelude.{◌≡◌, ◌≤◌, ◌<◌, ◌⊎◌, ℕ, ◌+◌, List, [], ◌∷◌, ◌++◌, length, take, Option, Some}
+use Rattle.std.specs.Prelude.{◌≡◌, ◌≤◌, ◌<◌, ◌⊎◌, ℕ, List, [], ◌∷◌, ◌++◌, length, take, Option, Some}
 use Rattle.dby_types.specs.declared.number.Lsn.{Lsn}
 use Rattle.device.specs.Disk.{Image, Segments, MayHold, MayLog, LeavesOnly}
 use Rattle.log_records.specs.Content.{LogRecord}
@@ -7,7 +7,6 @@ use Rattle.log_records.specs.Rules.{IsRecord}
 use Rattle.log_file.specs.declared.file.LogFile.{LogFile}
 use Rattle.log_file.specs.Control.{control_page}
 use Rattle.log_file.specs.List.{Bytes, StandsAt, behind, Reads, IsLog}
-use Rattle.log_file.specs.Tail.{FitsSegment, next_of}
 
 -- of a segment: all of an earlier one, the forced bytes of the current one, and nothing of a later one
 pub record IsLeft (l : LogFile) (log : Segments) (s : ℕ) (b : List ℕ) : Type 0 where
@@ -66,12 +65,6 @@ Holds old new before after may_before may_after =
 abbrev pub Gains : List LogRecord → (old new : LogFile) (before after : Segments) (may_before may_after : MayLog) → Type 0
 Gains added old new before after may_before may_after =
     (from : Lsn) (rs : List LogRecord) (n : ℕ) → Stands old before may_before from rs n → (m : ℕ) × (n ≤ m) × Stands new after may_after from (rs ++ added) m
-
--- an append adds the record, and in front of it one that names the next segment where it has no room in this one
-abbrev pub Appends : LogRecord → (old new : LogFile) (before after : Segments) (may_before may_after : MayLog) → Type 0
-Appends r old new before after may_before may_after =
-    (FitsSegment old r → Gains (r ∷ []) old new before after may_before may_after)
-    × ((FitsSegment old r → ⊥) → Gains (next_of (old.segment + 1) ∷ r ∷ []) old new before after may_before may_after)
 
 -- each is a record at its place
 abbrev pub AreRecords : Lsn → List LogRecord → Type 0

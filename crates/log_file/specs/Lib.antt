@@ -1,3 +1,4 @@
+pub mod Append
 pub mod Control
 pub mod Crash
 pub mod List

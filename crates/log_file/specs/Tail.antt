@@ -1,15 +1,12 @@
 -- The current segment of a log: what is forced on the disk, and what is kept behind it.
-use Rattle.std.specs.Prelude.{◌≡◌, ◌≤◌, ◌<◌, ℕ, ◌+◌, ◌-◌, ◌^◌, List, ◌++◌, length, take}
+use Rattle.std.specs.Prelude.{◌≡◌, ◌≤◌, ℕ, ◌+◌, List, ◌++◌, length, take}
 use Rattle.dby_types.specs.declared.number.Lsn.{Lsn}
 use Rattle.log_records.specs.Content.{LogRecord}
 use Rattle.log_records.specs.Content.LogBody.{next_segment}
 use Rattle.log_records.specs.Format.{size_of, stored_record}
 use Rattle.log_records.specs.Rules.{IsRecord}
-use Rattle.device.specs.Counts.{Rises}
 use Rattle.device.specs.Disk.{Segments}
 use Rattle.log_file.specs.declared.file.LogFile.{LogFile}
-use Rattle.log_file.specs.declared.answer.LogAnswer.{LogAnswer}
-use Rattle.log_file.specs.declared.answer.LogAnswer.TheVariants.{Failed, Full}
 
 -- the bytes appended since the last force
 abbrev pub pending : LogFile → List ℕ
@@ -38,17 +35,19 @@ pub record Grows (old new : LogFile) (before after : Segments) (bytes : List ℕ
 abbrev pub next_of : ℕ → LogRecord
 next_of segment = record { txn = 0; back = record { segment = 0; offset = 0 }; body = next_segment segment }
 
--- the segment ends with the record that names the next one, and no other segment changed
-pub record Left (old : LogFile) (before after : Segments) : Type 0 where
-  pub record_is : IsRecord (end_of old) (next_of (old.segment + 1))
-  pub bytes : take (old.forced + old.used + 44) (after old.segment) ≡ tail old before ++ stored_record (end_of old) (next_of (old.segment + 1))
+-- the segment ends with a record that names the one that follows, and no other segment changed
+pub record Left (old : LogFile) (r : LogRecord) (before after : Segments) : Type 0 where
+  pub record_is : IsRecord (end_of old) r
+  pub bytes : take (old.forced + old.used + 44) (after old.segment) ≡ tail old before ++ stored_record (end_of old) r
   pub others : (s : ℕ) → (s ≡ old.segment → ⊥) → after s ≡ before s
 
--- the next segment is begun: the log goes on in it, and nothing of it is forced
-pub record IsNext (old new : LogFile) : Type 0 where
-  pub segment_is : new.segment ≡ old.segment + 1
+-- another segment is begun: the log goes on in it, and nothing of it is forced
+pub record IsNext (next : ℕ) (old new : LogFile) : Type 0 where
+  pub segment_is : new.segment ≡ next
   pub forced_is : new.forced ≡ 0
+  pub used_is : new.used ≡ 0
   pub point_is : new.point ≡ old.point
+  pub at_is : new.at ≡ old.at
 
 -- the place where the next segment begins
 abbrev pub next_place : LogFile → Lsn
@@ -57,11 +56,6 @@ next_place l = record { segment = l.segment + 1; offset = 0 }
 -- a record has room in the current segment, with the record that names the next one behind it
 abbrev pub FitsSegment : LogFile → LogRecord → Type 0
 FitsSegment l r = l.forced + l.used + size_of r + 44 ≤ 16777216
-
--- an append fails only where the disk's count rose; it is full exactly where a new segment is needed and has no number
-abbrev pub HasAnswer : LogFile → LogRecord → ℕ → ℕ → LogAnswer → Type 0
-HasAnswer l r before now Failed = Rises before now × ((FitsSegment l r → ⊥) → l.segment + 1 < 2 ^ 32 - 1)
-HasAnswer l r before now (Full segment) = (segment ≡ 2 ^ 32 - 1) × (l.segment + 1 ≡ segment) × (FitsSegment l r → ⊥)
 
 -- a log that answers a failure is as it was, but for the place that is read next
 pub record Same (old new : LogFile) : Type 0 where

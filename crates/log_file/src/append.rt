@@ -1,11 +1,12 @@
 //! Records put at the log's end.
 
-ghost use Rattle.std.specs.Prelude.{◌≡◌, ◌≤◌, ◌<◌, ◌+◌, ◌++◌, ◌↔◌, ◌∷◌, [], None, IsTrue, OnOk, OnErr, IfOk, IfErr, take, length};
+ghost use Rattle.std.specs.Prelude.{◌⊎◌, ◌≡◌, ◌≤◌, ◌<◌, ◌+◌, ◌++◌, ◌↔◌, ◌∷◌, [], None, IsTrue, OnOk, OnErr, IfOk, IfErr, take, length};
 ghost use Rattle.device.specs.Counts.{HasCause, Rises};
 ghost use Rattle.log_records.specs.Format.{size_of, stored_record};
 ghost use Rattle.log_records.specs.Rules.{IsLegal, IsRecord};
 ghost use Rattle.log_records.specs.View.{body_of, record_of};
 ghost use Rattle.log_file.specs.Crash.{Crashes, Gains, Holds, Stays};
+ghost use Rattle.log_file.specs.Append.{EndsWith};
 ghost use Rattle.log_file.specs.List.{follower, forced_of};
 ghost use Rattle.log_file.specs.Tail.{Same, end_of, pending};
 
@@ -68,9 +69,11 @@ impl LogFile {
     pub(crate) fn make_room<D: Disk>(&mut self, disk: &mut D, size: usize) -> Result<(), Failed>
         requires { (size ≤ 20000) × (self.old.forced + self.old.used + size + 44 ≤ 16777216) }
         ensures list { D.tells → OnOk result (Holds self.old self.new (D.log disk.old) (D.log disk.new) (D.may_log disk.old) (D.may_log disk.new)) × OnErr result (Stays self.old self.new (D.log disk.old) (D.log disk.new) (D.may_log disk.old) (D.may_log disk.new)) }
-        ensures room { OnOk result ((self.new.used + size + 44 ≤ 65536) × (end_of self.new ≡ end_of self.old)) }
-        ensures same { OnErr result (Same self.old self.new) }
+        ensures forced { OnOk result ((forced_of self.new ≡ forced_of self.old) ⊎ (forced_of self.new ≡ end_of self.old)) }
+        ensures room { OnOk result ((self.new.used + size + 44 ≤ 65536) × (end_of self.new ≡ end_of self.old) × (self.new.point ≡ self.old.point) × (self.new.at ≡ self.old.at)) }
+        ensures same { OnErr result (Same self.old self.new × (self.new.at ≡ self.old.at)) }
         ensures crash { D.tells → Crashes D.moment D.left_since D.may_log D.may_hold (forced_of self.old) disk.old disk.new (D.may_hold disk.old) }
+        ensures clock { D.tells → D.moment disk.new ≤ D.moment disk.old + 2 }
         ensures cause { HasCause (D.fault_count disk.old) (D.fault_count disk.new) result }
     {
         if self.needs_force(size) {
@@ -87,13 +90,17 @@ impl LogFile {
         size: usize,
     ) -> Result<Lsn, Failed>
         requires legal { IsLegal (end_of self.old) (record_of r.now) }
+        requires plain { follower (body_of r.now.body) ≡ None }
         requires size_is { (size ≡ size_of (record_of r.now)) × (size ≤ 20000) }
         requires room { self.old.forced + self.old.used + size + 44 ≤ 16777216 }
         ensures place { IfOk result (λ at. at ≡ end_of self.old) }
-        ensures list { D.tells → follower (body_of r.now.body) ≡ None → OnOk result (Gains (record_of r.now ∷ []) self.old self.new (D.log disk.old) (D.log disk.new) (D.may_log disk.old) (D.may_log disk.new)) }
+        ensures forced { OnOk result ((forced_of self.new ≡ forced_of self.old) ⊎ (forced_of self.new ≡ end_of self.old)) }
+        ensures ends { IfOk result (λ at. EndsWith self.old self.new at (record_of r.now)) }
+        ensures list { D.tells → OnOk result (Gains (record_of r.now ∷ []) self.old self.new (D.log disk.old) (D.log disk.new) (D.may_log disk.old) (D.may_log disk.new)) }
         ensures stays { D.tells → OnErr result (Stays self.old self.new (D.log disk.old) (D.log disk.new) (D.may_log disk.old) (D.may_log disk.new)) }
-        ensures same { OnErr result (Same self.old self.new) }
+        ensures same { OnErr result (Same self.old self.new × (self.new.at ≡ self.old.at)) }
         ensures crash { D.tells → Crashes D.moment D.left_since D.may_log D.may_hold (forced_of self.old) disk.old disk.new (D.may_hold disk.old) }
+        ensures clock { D.tells → D.moment disk.new ≤ D.moment disk.old + 2 }
         ensures cause { HasCause (D.fault_count disk.old) (D.fault_count disk.new) result }
     {
         match self.make_room(disk, size) {

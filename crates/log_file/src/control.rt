@@ -1,6 +1,6 @@
 //! The control page.
 
-ghost use Rattle.std.specs.Prelude.{◌≡◌, Some, OnOk};
+ghost use Rattle.std.specs.Prelude.{◌≤◌, ◌+◌, ◌≡◌, Some, OnOk};
 ghost use Rattle.device.specs.Counts.{HasCause};
 ghost use Rattle.device.specs.Disk.{IsImage, LeavesOnly, NewPage, NoNewLog, OnlyPages, SameLog};
 ghost use Rattle.log_file.specs.Control.{blank, control_numbers, control_page};
@@ -43,6 +43,7 @@ pub fn raise<D: Disk>(disk: &mut D, next: u32, point: Lsn) -> Result<(), Failed>
     ensures log { D.tells → OnOk result (SameLog (D.log disk.old) (D.log disk.new)) }
     ensures crash { D.tells → NewPage 0 0 (Some (control_page next point)) (D.may_hold disk.old) (D.may_hold disk.new) × NoNewLog (D.may_log disk.old) (D.may_log disk.new) }
     ensures moments { D.tells → LeavesOnly D.moment D.left_since disk.old disk.new (IsImage (OrControl next point (D.may_hold disk.old)) (D.may_log disk.old)) }
+    ensures clock { D.tells → D.moment disk.new ≤ D.moment disk.old + 2 }
     ensures cause { HasCause (D.fault_count disk.old) (D.fault_count disk.new) result }
 {
     let mut page = [0; 4096];

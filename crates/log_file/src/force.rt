@@ -18,6 +18,7 @@ impl LogFile {
         requires { (n ≤ 65536) × (self.now.forced + n ≤ 16777216) }
         ensures written { D.tells → OnOk result (SegmentIs self.now.segment (written_at (D.log disk.old self.now.segment) self.now.forced (take n self.now.buffer.items)) (D.log disk.old) (D.log disk.new) × OnlyLog (D.log disk.new) (D.may_log disk.new)) }
         ensures crash { D.tells → Crashes D.moment D.left_since D.may_log D.may_hold (forced_of self.now) disk.old disk.new (D.may_hold disk.old) }
+        ensures clock { D.tells → D.moment disk.new ≤ D.moment disk.old + 2 }
         ensures cause { HasCause (D.fault_count disk.old) (D.fault_count disk.new) result }
     {
         match disk.log_write(self.segment, self.forced as u32, &self.buffer[..n]) {
@@ -36,9 +37,10 @@ impl LogFile {
     pub fn force<D: Disk>(&mut self, disk: &mut D) -> Result<(), Failed>
         ensures forced { D.tells → IsOn self.old (D.log disk.old) → OnOk result (Grows self.old self.new (D.log disk.old) (D.log disk.new) [] × OnlyLog (D.log disk.new) (D.may_log disk.new)) }
         ensures list { D.tells → OnOk result (Forces self.old self.new (D.log disk.old) (D.log disk.new) (D.may_log disk.old) (D.may_log disk.new)) × OnErr result (Stays self.old self.new (D.log disk.old) (D.log disk.new) (D.may_log disk.old) (D.may_log disk.new)) }
-        ensures all { OnOk result ((self.new.forced ≡ self.old.forced + self.old.used) × (self.new.used ≡ 0) × (self.new.segment ≡ self.old.segment) × (self.new.point ≡ self.old.point)) }
-        ensures same { OnErr result (Same self.old self.new) }
+        ensures all { OnOk result ((self.new.forced ≡ self.old.forced + self.old.used) × (self.new.used ≡ 0) × (self.new.segment ≡ self.old.segment) × (self.new.point ≡ self.old.point) × (self.new.at ≡ self.old.at)) }
+        ensures same { OnErr result (Same self.old self.new × (self.new.at ≡ self.old.at)) }
         ensures crash { D.tells → Crashes D.moment D.left_since D.may_log D.may_hold (forced_of self.old) disk.old disk.new (D.may_hold disk.old) }
+        ensures clock { D.tells → D.moment disk.new ≤ D.moment disk.old + 2 }
         ensures cause { HasCause (D.fault_count disk.old) (D.fault_count disk.new) result }
     {
         match self.write_front(disk, self.used) {
@@ -59,6 +61,7 @@ impl LogFile {
         ensures list { D.tells → Stays self.old self.new (D.log disk.old) (D.log disk.new) (D.may_log disk.old) (D.may_log disk.new) }
         ensures crash { D.tells → Crashes D.moment D.left_since D.may_log D.may_hold (forced_of self.old) disk.old disk.new (OrControl (self.old.segment + 1) self.old.point (D.may_hold disk.old)) }
         ensures same { self.new ≡ self.old }
+        ensures clock { D.tells → D.moment disk.new ≤ D.moment disk.old + 2 }
         ensures cause { HasCause (D.fault_count disk.old) (D.fault_count disk.new) result }
     {
         raise(disk, self.segment + 1, self.point)

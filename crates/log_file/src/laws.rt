@@ -1,12 +1,12 @@
 //! What holds of every log.
 
-ghost use Rattle.std.specs.Prelude.{◌≡◌, ◌+◌, ℕ, List, [], ◌∷◌, ◌++◌, drop};
+ghost use Rattle.std.specs.Prelude.{◌≡◌, ℕ, List, ◌++◌, drop};
 ghost use Rattle.dby_types.specs.declared.number.Lsn.{Lsn};
 ghost use Rattle.device.specs.Disk.{Image, IsImage, Segments};
 ghost use Rattle.log_records.specs.Content.{LogRecord};
 ghost use Rattle.log_file.specs.Crash.{AreRecords, KeepsBytes, OnlyAppended, ReadsFront, Stands};
 ghost use Rattle.log_file.specs.List.{IsLog, Reads, forced_of, in_log, on_disk};
-ghost use Rattle.log_file.specs.Tail.{end_of, next_of};
+ghost use Rattle.log_file.specs.Tail.{end_of};
 
 use crate::file::LogFile;
 use device::Disk;
@@ -15,11 +15,6 @@ impl LogFile {
     /// A log is read as its list.
     pub fn is_read(&self)
         ensures { (log : Segments) (from : Lsn) (rs : List LogRecord) (n : ℕ) → IsLog self.now log from rs n → Reads (in_log self.now log) from rs }
-    {}
-
-    /// The record that names the next segment, which a change of segment puts at the log's end, is a record there.
-    pub fn may_be_left(&self)
-        ensures { AreRecords (end_of self.now) (next_of (self.now.segment + 1) ∷ []) }
     {}
 
     /// What is read after a crash is a front of the list that has all that was forced, where torn bytes are no record; and so of a crash within a

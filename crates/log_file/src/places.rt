@@ -3,7 +3,8 @@
 ghost use Rattle.std.specs.Prelude.{◌≡◌, ◌≤◌, ◌<◌, ◌+◌, ◌^◌, ◌-◌, ℕ, [], IfOk};
 ghost use Rattle.device.specs.Disk.{Segments};
 ghost use Rattle.log_file.specs.Crash.{IsUnmoved};
-ghost use Rattle.log_file.specs.List.{IsLog, forced_of};
+ghost use Rattle.dby_types.specs.declared.number.Lsn.{Lsn};
+ghost use Rattle.log_file.specs.List.{IsLog, forced_of, in_log, on_disk};
 ghost use Rattle.log_file.specs.Tail.{end_of};
 
 use crate::file::{BUFFER, LONGEST, LogFile};
@@ -17,6 +18,7 @@ impl LogFile {
         ensures segment { IfOk result (λ l. l.segment ≡ segment) }
         ensures empty { IfOk result (λ l. (l.forced ≡ 0) × (l.used ≡ 0)) }
         ensures list { IfOk result (λ l. (log : Segments) → ((s : ℕ) → segment < s → log s ≡ []) → IsLog l log (record { segment = segment; offset = 0 }) [] 0) }
+        ensures reads { IfOk result (λ l. (log : Segments) → log segment ≡ [] → (at : Lsn) → in_log l log at ≡ on_disk log at) }
         ensures places { IfOk result (λ l. (l.at ≡ record { segment = segment; offset = 0 }) × (l.point ≡ record { segment = 0; offset = 0 })) }
     {
         let buffer = vec![in alloc; 0; BUFFER]?;

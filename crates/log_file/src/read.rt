@@ -1,6 +1,6 @@
 //! The log read back.
 
-ghost use Rattle.std.specs.Prelude.{◌≡◌, ◌≤◌, ◌<◌, ◌⊎◌, ◌-◌, ℕ, List, take, drop, min, length, IfOk, OnOk, OnErr, MatchOption};
+ghost use Rattle.std.specs.Prelude.{◌+◌, ◌≡◌, ◌≤◌, ◌<◌, ◌⊎◌, ◌-◌, ℕ, List, take, drop, min, length, IfOk, OnOk, OnErr, MatchOption};
 ghost use Rattle.device.specs.Counts.{HasCause};
 ghost use Rattle.device.specs.Disk.{NoNewPage, SameLog};
 ghost use Rattle.log_records.specs.Content.{LogRecord};
@@ -82,6 +82,7 @@ fn read_disk<D: Disk>(disk: &mut D, at: Lsn, into: &mut [u8], n: usize) -> Resul
     ensures within { IfOk result (λ k. k ≤ n) }
     ensures seen { D.tells → OnOk result (SameLog (D.log disk.old) (D.log disk.new)) }
     ensures crash { D.tells → (end : Lsn) → Crashes D.moment D.left_since D.may_log D.may_hold end disk.old disk.new (D.may_hold disk.old) }
+    ensures clock { D.tells → D.moment disk.new ≤ D.moment disk.old + 1 }
     ensures cause { HasCause (D.fault_count disk.old) (D.fault_count disk.new) result }
 {
     disk.log_read(at.segment, at.offset, &mut into[..n])
@@ -97,6 +98,7 @@ impl LogFile {
         ensures stays { (self.new.at ≡ self.old.at) × (self.new.found ≡ 0) }
         ensures seen { D.tells → OnOk result (SameLog (D.log disk.old) (D.log disk.new)) }
         ensures crash { D.tells → Crashes D.moment D.left_since D.may_log D.may_hold (forced_of self.old) disk.old disk.new (D.may_hold disk.old) }
+        ensures clock { D.tells → D.moment disk.new ≤ D.moment disk.old + 1 }
         ensures cause { HasCause (D.fault_count disk.old) (D.fault_count disk.new) result }
     {
         self.found = 0;
@@ -133,10 +135,11 @@ impl LogFile {
     /// Reads the record at the place where reading goes on, and goes on behind it; where none stands there, it goes on at the same place.
     pub fn advance<D: Disk>(&mut self, disk: &mut D) -> Result<(), Failed>
         ensures found { D.tells → IsOn self.old (D.log disk.old) → OnOk result (Finds (in_log self.old (D.log disk.old)) self.old.at self.new) }
-        ensures order { D.tells → IsOn self.old (D.log disk.old) → OnOk result ((rs : List LogRecord) → Reads (in_log self.old (D.log disk.old)) self.old.at rs → Gives (in_log self.old (D.log disk.old)) rs self.new) }
+        ensures order { D.tells → IsOn self.old (D.log disk.old) → OnOk result (IsOn self.new (D.log disk.new) × ((rs : List LogRecord) → Reads (in_log self.old (D.log disk.old)) self.old.at rs → Gives (in_log self.new (D.log disk.new)) rs self.new)) }
         ensures list { D.tells → Stays self.old self.new (D.log disk.old) (D.log disk.new) (D.may_log disk.old) (D.may_log disk.new) }
         ensures same { Same self.old self.new × OnErr result (self.new.at ≡ self.old.at) }
         ensures crash { D.tells → Crashes D.moment D.left_since D.may_log D.may_hold (forced_of self.old) disk.old disk.new (D.may_hold disk.old) }
+        ensures clock { D.tells → D.moment disk.new ≤ D.moment disk.old + 2 }
         ensures cause { HasCause (D.fault_count disk.old) (D.fault_count disk.new) result }
     {
         let at = self.at;

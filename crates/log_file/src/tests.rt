@@ -6,7 +6,7 @@ use crate::answer::LogAnswer;
 use crate::file::LogFile;
 use dby_types::number::Lsn;
 use device::Disk;
-use device_mem::disk::MemDisk;
+use device_mem::disk::{Images, MemDisk};
 use log_records::record::{Base, Body, Record};
 use std::alloc::Global;
 
@@ -191,6 +191,44 @@ fn segment_is_filled_to_its_last_byte(rt: HostRuntime) {
     assert!(rt; read(&mut log, &mut disk).is_none());
 }
 
+/// Appends a record that names a later segment, and leaves an earlier one be.
+fn name_segment(log: &mut LogFile, disk: &mut MemDisk, segment: u32) -> Result<Lsn, LogAnswer> {
+    if log.end().segment >= segment {
+        return Err(LogAnswer::Failed);
+    }
+    let record = Record {
+        txn: 0,
+        back: NONE,
+        body: Body::NextSegment { segment },
+    };
+    log.append(disk, &record)
+}
+
+/// Whether the control page has this next number of a segment.
+fn has_number(disk: &mut MemDisk, next: u8) -> bool {
+    let mut page = [0; 4096];
+    disk.page_read(0, 0, &mut page) == Ok(true) && page[35] == 1 && page[39] == next
+}
+
+#[test]
+fn record_that_names_a_segment_ends_its_own(rt: HostRuntime) {
+    let mut disk = MemDisk::new(rt.alloc());
+    let mut log = LogFile::new(rt.alloc(), 1).expect(&rt, "memory");
+    assert!(rt; commit(&mut log, &mut disk, 5) == Ok(place(1, 0)));
+    assert!(rt; name_segment(&mut log, &mut disk, 7) == Ok(place(1, 40)));
+    assert!(rt; has_number(&mut disk, 8));
+    assert!(rt; log.end() == place(7, 0));
+    assert!(rt; commit(&mut log, &mut disk, 6) == Ok(place(7, 0)));
+    assert!(rt;
+        name_segment(&mut log, &mut disk, u32::MAX) == Err(LogAnswer::Full { segment: u32::MAX })
+    );
+    log.seek(place(1, 0));
+    assert!(rt; read(&mut log, &mut disk) == Some((5, place(1, 0))));
+    assert!(rt; read(&mut log, &mut disk) == Some((0, place(1, 40))));
+    assert!(rt; read(&mut log, &mut disk) == Some((6, place(7, 0))));
+    assert!(rt; read(&mut log, &mut disk).is_none());
+}
+
 /// Whether a force is done after each of its two calls failed once, and nothing was forced before.
 fn forces_at_last(log: &mut LogFile, disk: &mut MemDisk) -> bool {
     for k in 0..2 {
@@ -235,4 +273,47 @@ fn failed_append_appends_nothing(rt: HostRuntime) {
     let mut log = LogFile::new(rt.alloc(), 1).expect(&rt, "memory");
     assert!(rt; appends_at_last(&mut log, &mut disk, &[7; 9960]));
     assert!(rt; log.end() == place(1, 79_896));
+}
+
+/// Whether the records at 1.0 are one of transaction 5 and then none, or one of transaction 6 and then none.
+fn reads_front(log: &mut LogFile, disk: &mut MemDisk) -> bool {
+    log.seek(place(1, 0));
+    if read(log, disk) != Some((5, place(1, 0))) {
+        return false;
+    }
+    match read(log, disk) {
+        Some((6, at)) => at == place(1, 40) && read(log, disk).is_none(),
+        Some(_) => false,
+        None => true,
+    }
+}
+
+/// In how many of these disks a log has what was forced of it, and a front of the rest.
+fn having_front(log: &mut LogFile, images: &mut Images) -> usize {
+    let mut n: usize = 0;
+    for image in images.iter_mut() {
+        if reads_front(log, image) {
+            n = n.saturating_add(1);
+        }
+    }
+    n
+}
+
+#[test]
+fn every_image_of_a_force_has_what_was_forced(rt: HostRuntime) {
+    let mut disk = MemDisk::new(rt.alloc());
+    let mut log = LogFile::new(rt.alloc(), 1).expect(&rt, "memory");
+    assert!(rt; commit(&mut log, &mut disk, 5) == Ok(place(1, 0)));
+    assert!(rt; log.force(&mut disk).is_ok());
+    let since = disk.clock();
+    assert!(rt; since == 2);
+    assert!(rt; commit(&mut log, &mut disk, 6) == Ok(place(1, 40)));
+    assert!(rt; log.force(&mut disk).is_ok());
+    let mut later = LogFile::new(rt.alloc(), 2).expect(&rt, "memory");
+    let images = disk.images(since);
+    assert!(rt; images.is_ok());
+    if let Ok(mut images) = images {
+        assert!(rt; images.len() == 92);
+        assert!(rt; having_front(&mut later, &mut images) == 92);
+    }
 }

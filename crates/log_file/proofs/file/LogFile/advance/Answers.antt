@@ -1,10 +1,11 @@
 use Rattle.std.proofs.Common.{◌≡◌, ◌∙◌, take, ap, subst}
 use Rattle.dby_types.specs.declared.number.Lsn.{Lsn}
-use Rattle.device.specs.Disk.{Segments}
+use Rattle.device.specs.Disk.{Segments, SameLog}
 use Rattle.log_file.specs.Crash.{Crashes}
 use Rattle.log_file.specs.List.{forced_of, in_log}
 use Rattle.log_file.proofs.Crashing.{then_after}
-use Rattle.log_file.proofs.Records.{finds, gives, part_same, same_bytes, told_front}
+use Rattle.log_file.specs.Tail.{Same}
+use Rattle.log_file.proofs.Records.{finds, gives, gives_same, part_same, same_bytes, told_front}
 use Rattle.log_file.proofs.Steps.{same_again, same_forced, stays, still_on}
 use Rattle.log_file.proofs.file.LogFile.advance.Goals as goal
 
@@ -40,7 +41,15 @@ returns-clause-found g c = λ told on.
     c.judge.ensures.judges c.judge.ensures.from c.judge.ensures.same.1
 
 pub returns-clause-order : goal.returns-clause-order
-returns-clause-order g c = λ told on rs. gives (in_log c.args.self.now (g.D.Disk.log c.args.disk.now)) c.args.self.now.at c.judge.new.self (returns-clause-found g c told on) rs
+returns-clause-order g c = λ told on.
+    let same : Same c.args.self.now c.judge.new.self =
+    same_again c.args.self.now c.fetch-2.new.self c.judge.new.self (same_again c.args.self.now c.fetch.new.self c.fetch-2.new.self c.fetch.ensures.same c.fetch-2.ensures.same) c.judge.ensures.same.0 in
+    let still : SameLog (g.D.Disk.log c.args.disk.now) (g.D.Disk.log c.fetch-2.new.disk) = λ s. c.in-Ok-fetch.ensures.seen told s ∙ c.in-Ok.ensures.seen told s in (
+      still_on c.args.self.now c.judge.new.self (g.D.Disk.log c.args.disk.now) (g.D.Disk.log c.fetch-2.new.disk) same still on,
+      λ rs h. gives_same (in_log c.args.self.now (g.D.Disk.log c.args.disk.now)) (in_log c.judge.new.self (g.D.Disk.log c.fetch-2.new.disk)) rs c.judge.new.self
+          (same_bytes c.args.self.now c.judge.new.self (g.D.Disk.log c.args.disk.now) (g.D.Disk.log c.fetch-2.new.disk) same still)
+          (gives (in_log c.args.self.now (g.D.Disk.log c.args.disk.now)) c.args.self.now.at c.judge.new.self (returns-clause-found g c told on) rs h),
+    )
 
 pub returns-clause-crash : goal.returns-clause-crash
 returns-clause-crash g c told =
