@@ -7,6 +7,7 @@ pub mod FreedLemmas
 pub mod ServeLemmas
 pub mod BlockedLemmas
 pub mod TableLemmas
+pub mod ChosenLemmas
 pub mod BothLemmas
 pub mod TalliesLemmas
 pub mod NumberLemmas

@@ -3,7 +3,8 @@ use Rattle.std.specs.Prelude.{◌≡◌, ◌⊎◌, ◌<◌, ◌-◌, ◌&&◌, 
 use Rattle.dby_types.specs.declared.number.TxnNo.{TxnNo}
 use Rattle.lock_modes.specs.declared.entry.Request.{Request}
 use Rattle.lock_modes.specs.declared.event.LockEvent.{LockEvent}
-use Rattle.lock_modes.specs.Lock.{Lock, queue, apply_all}
+use Rattle.lock_modes.specs.declared.event.LockEvent.TheVariants.{Chosen}
+use Rattle.lock_modes.specs.Lock.{Lock, queue, has_grant, apply, apply_all}
 use Rattle.std.specs.List.{list_any}
 use Rattle.lock_modes.specs.declared.mode.Mode.{Mode}
 use Rattle.lock_modes.specs.declared.name.LockName.{LockName}
@@ -12,7 +13,7 @@ use Rattle.lock_manager.specs.Serve.{contests}
 use Rattle.lock_modes.specs.Names.{same_txn, is_row_name}
 use Rattle.lock_modes.specs.Proper.{IsRefused, MayHave}
 use Rattle.lock_modes.specs.Serving.{Serves, grants_of}
-use Rattle.lock_modes.specs.Waits.{earlier, blocks}
+use Rattle.lock_modes.specs.Waits.{earlier, blocks, waiting}
 use Rattle.lock_modes.specs.Escalation.{released_rows, IsAllRows, escalation}
 use Rattle.lock_manager.specs.declared.table.LockTable.{LockTable}
 use Rattle.lock_manager.specs.declared.tried.Tried.{Tried}
@@ -62,6 +63,16 @@ pub record GivesRows (old new : LockTable) (t : TxnNo) (table : ℕ) : Type 0 wh
 -- a table's mode was granted and its rows were given back, in whatever order, and then queued requests were granted
 abbrev pub Escalates : LockTable → LockTable → TxnNo → ℕ → Mode → Type 0
 Escalates old new t table mode = (names : List LockName) → IsAllRows (lock old) t table names → Gives old new (escalation t table mode names)
+
+-- a transaction has no grant, waits for nothing and may ask for nothing
+pub record IsStranger (v : LockTable) (t : TxnNo) : Type 0 where
+  pub nothing : (n : LockName) → has_grant (lock v).grants t n ≡ false
+  pub idle : waiting (lock v) t ≡ None
+  pub spare : spare_of v t ≡ 0
+
+-- a transaction was chosen; or nothing changed, where it's a stranger to the table
+abbrev pub IsNoted : LockTable → LockTable → TxnNo → Type 0
+IsNoted old new t = (lock new ≡ apply (lock old) (Chosen t)) ⊎ ((lock new ≡ lock old) × IsStranger old t)
 
 -- one name less is left to a transaction, unless it has something on the name already
 abbrev pub IsSpent : LockTable → LockTable → TxnNo → Bool → Type 0
