@@ -9,6 +9,7 @@ pub mod BlockedLemmas
 pub mod TableLemmas
 pub mod ChosenLemmas
 pub mod BothLemmas
+pub mod ProperLemmas
 pub mod TalliesLemmas
 pub mod NumberLemmas
 pub mod BlockingLemmas

@@ -1,5 +1,5 @@
 -- A lock table as its callers see it.
-use Rattle.std.specs.Prelude.{◌≡◌, ◌⊎◌, ◌<◌, ◌-◌, ◌&&◌, not, ℕ, Bool, true, false, List, [], ◌++◌, if◌then◌else◌, Option, Some, None}
+use Rattle.std.specs.Prelude.{◌≡◌, ◌⊎◌, ◌<◌, ◌-◌, ◌&&◌, ◌∷◌, ◌||◌, not, ℕ, Bool, true, false, List, [], ◌++◌, if◌then◌else◌, Option, Some, None}
 use Rattle.dby_types.specs.declared.number.TxnNo.{TxnNo}
 use Rattle.lock_modes.specs.declared.entry.Request.{Request}
 use Rattle.lock_modes.specs.declared.event.LockEvent.{LockEvent}
@@ -11,7 +11,7 @@ use Rattle.lock_modes.specs.declared.name.LockName.{LockName}
 use Rattle.lock_modes.specs.Modes.{hinders, is_covered, writes, is_ranged}
 use Rattle.lock_manager.specs.Serve.{contests}
 use Rattle.lock_modes.specs.Names.{same_txn, is_row_name}
-use Rattle.lock_modes.specs.Proper.{IsRefused, MayHave}
+use Rattle.lock_modes.specs.Proper.{IsProper, IsRefused, MayHave, chooses}
 use Rattle.lock_modes.specs.Serving.{Serves, grants_of}
 use Rattle.lock_modes.specs.Waits.{earlier, blocks, waiting}
 use Rattle.lock_modes.specs.Escalation.{released_rows, IsAllRows, escalation}
@@ -46,12 +46,18 @@ abbrev pub IsHindrance : Lock → Request → Option TxnNo → Type 0
 IsHindrance l r None = MayHave l r
 IsHindrance l r (Some h) = (is_covered (l.grants r.txn r.name) r.mode ≡ false) × (blocks l.grants (earlier l r) r h ≡ true)
 
+-- events may come one after another
+abbrev pub AreProper : Lock → (TxnNo → Bool) → List LockEvent → Type 0
+AreProper l ever [] = Unit {0}
+AreProper l ever (e ∷ es) = IsProper l ever e × AreProper (apply l e) (λ t. chooses e t || ever t) es
+
 -- the events came, and then each queued request that could be granted was granted, in the order of the queue
 pub record Gives (old new : LockTable) (es : List LockEvent) : Type 0 where
   pub given : List Request
   pub noted : woken_of new ≡ woken_of old ++ given
   pub order : Serves (apply_all (lock old) es).grants [] (queue (apply_all (lock old) es)) given (queue (lock new))
   pub events : lock new ≡ apply_all (apply_all (lock old) es) (grants_of given)
+  pub proper : (ever : TxnNo → Bool) → AreProper (apply_all (lock old) es) ever (grants_of given)
 
 -- a transaction gave back its rows of a table, and then each queued request that could be granted was granted, in order
 pub record GivesRows (old new : LockTable) (t : TxnNo) (table : ℕ) : Type 0 where
@@ -59,6 +65,7 @@ pub record GivesRows (old new : LockTable) (t : TxnNo) (table : ℕ) : Type 0 wh
   pub noted : woken_of new ≡ woken_of old ++ given
   pub order : Serves (released_rows (lock old).grants t table) [] (queue (lock old)) given (queue (lock new))
   pub events : lock new ≡ apply_all (record (lock old) { grants = released_rows (lock old).grants t table }) (grants_of given)
+  pub proper : (ever : TxnNo → Bool) → AreProper (record (lock old) { grants = released_rows (lock old).grants t table }) ever (grants_of given)
 
 -- a table's mode was granted and its rows were given back, in whatever order, and then queued requests were granted
 abbrev pub Escalates : LockTable → LockTable → TxnNo → ℕ → Mode → Type 0
