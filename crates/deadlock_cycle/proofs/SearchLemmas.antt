@@ -18,11 +18,11 @@ use Rattle.lock_manager.specs.Serve.{is_among}
 use Rattle.deadlock_cycle.specs.Search.{is_seen, is_none, is_passed, is_skipped, Each, IsPath, IsTried, IsClosed, is_on, Searching, room_above, rank}
 use Rattle.deadlock_cycle.proofs.PathLemmas.{each_push, each_front, each_last, each_weaker, path_push, path_front}
 
-or_none : (a b : Bool) → (a || b) ≡ false → (a ≡ false) × (b ≡ false)
+pub or_none : (a b : Bool) → (a || b) ≡ false → (a ≡ false) × (b ≡ false)
 or_none true b h = absurd (both_ways true h refl)
 or_none false b h = (refl, h)
 
-or_no : (a : Bool) → (a || false) ≡ a
+pub or_no : (a : Bool) → (a || false) ≡ a
 or_no true = refl
 or_no false = refl
 
@@ -32,10 +32,10 @@ seen_cases s h seen k =
     let parts : (is_seen s seen || (same_txn s h || false)) ≡ true = sym (list_any-append (λ u. same_txn s u) seen (h ∷ [])) ∙ k in
     elim (or_cases (is_seen s seen) (same_txn s h || false) parts) [ inl x ↦ inl x | inr y ↦ inr (txn_eq s h (sym (or_no (same_txn s h)) ∙ y)) ]
 
-seen_more : (s h : TxnNo) (seen : List TxnNo) → is_seen s seen ≡ true → is_seen s (seen ++ h ∷ []) ≡ true
+pub seen_more : (s h : TxnNo) (seen : List TxnNo) → is_seen s seen ≡ true → is_seen s (seen ++ h ∷ []) ≡ true
 seen_more s h seen k = list_any-append (λ u. same_txn s u) seen (h ∷ []) ∙ or_left _ _ k
 
-seen_now : (h : TxnNo) (seen : List TxnNo) → is_seen h (seen ++ h ∷ []) ≡ true
+pub seen_now : (h : TxnNo) (seen : List TxnNo) → is_seen h (seen ++ h ∷ []) ≡ true
 seen_now h seen = list_any-append (λ u. same_txn h u) seen (h ∷ []) ∙ or_right (is_seen h seen) _ (or_left _ _ (txn_refl h))
 
 -- who is skipped stays so when more were come to
@@ -176,13 +176,13 @@ pub path_fits : (l : Lock) (t : TxnNo) (path : List Edge) (seen : List TxnNo) (n
 path_fits l t path seen node above s = let k = seen_fits l seen s.apart s.waits in let d = s.deep in let f = s.few in omega (arith, k, d, f)
 
 -- who waits on an edge's side of a path
-on_more : (s : TxnNo) (path : List Edge) (e : Edge) → is_on s path ≡ true → is_on s (path ++ e ∷ []) ≡ true
+pub on_more : (s : TxnNo) (path : List Edge) (e : Edge) → is_on s path ≡ true → is_on s (path ++ e ∷ []) ≡ true
 on_more s path e k = list_any-append (λ e. same_txn e.waiter s) path (e ∷ []) ∙ or_left _ _ k
 
-on_last : (s : TxnNo) (path : List Edge) (e : Edge) → same_txn e.waiter s ≡ true → is_on s (path ++ e ∷ []) ≡ true
+pub on_last : (s : TxnNo) (path : List Edge) (e : Edge) → same_txn e.waiter s ≡ true → is_on s (path ++ e ∷ []) ≡ true
 on_last s path e k = list_any-append (λ e. same_txn e.waiter s) path (e ∷ []) ∙ or_right (is_on s path) _ (or_left _ _ k)
 
-on_cases : (s : TxnNo) (path : List Edge) (e : Edge) → is_on s (path ++ e ∷ []) ≡ true → (is_on s path ≡ true) ⊎ (same_txn e.waiter s ≡ true)
+pub on_cases : (s : TxnNo) (path : List Edge) (e : Edge) → is_on s (path ++ e ∷ []) ≡ true → (is_on s path ≡ true) ⊎ (same_txn e.waiter s ≡ true)
 on_cases s path e k =
     let parts : (is_on s path || (same_txn e.waiter s || false)) ≡ true = sym (list_any-append (λ e. same_txn e.waiter s) path (e ∷ [])) ∙ k in
     elim (or_cases (is_on s path) (same_txn e.waiter s || false) parts) [ inl x ↦ inl x | inr y ↦ inr (sym (or_no (same_txn e.waiter s)) ∙ y) ]

@@ -1,3 +1,5 @@
 pub mod Search
+pub mod First
+pub mod Ordered
 pub mod Steps
 pub mod Choice

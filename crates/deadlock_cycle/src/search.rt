@@ -1,10 +1,11 @@
 //! The search for a cycle: depth first, lower numbers first.
 
-ghost use Rattle.std.specs.Prelude.{◌≡◌, ◌≤◌, ◌<◌, false, [], length, MatchOption};
+ghost use Rattle.std.specs.Prelude.{◌≡◌, ◌≤◌, ◌<◌, false, [], length, MatchOption, IfSome};
 ghost use Rattle.lock_modes.specs.Lock.{queue};
 ghost use Rattle.lock_modes.specs.Names.{same_txn};
 ghost use Rattle.lock_manager.specs.Blocking.{IsBlocker, IsUnblocked};
 ghost use Rattle.lock_manager.specs.Table.{lock};
+ghost use Rattle.deadlock_cycle.specs.First.{IsFirst};
 ghost use Rattle.deadlock_cycle.specs.Search.{IsCycleThrough, NoCycle, Searching, is_passed};
 ghost use Rattle.deadlock_cycle.specs.Steps.{IsSearching, IsStep};
 
@@ -37,10 +38,12 @@ pub enum Next {
 }
 
 /// A cycle of waits through a transaction that stands and has no chosen victim in it; None exactly where there is none. The
-/// search goes depth first, lower numbers first. At most 64 requests may wait.
+/// search goes depth first, lower numbers first: of all such cycles that come to nobody twice, each walked from the transaction,
+/// it finds the one that goes on to the lower number wherever it parts from another. At most 64 requests may wait.
 pub fn after_wait(l: &LockTable, t: TxnNo) -> Option<Cycle>
     requires { length (queue (lock l.now)) ≤ 64 }
     ensures exact { MatchOption result (NoCycle (lock l.now) t) (λ c. IsCycleThrough (lock l.now) t c) }
+    ensures first { IfSome result (λ c. IsFirst (lock l.now) t c) }
 {
     if is_passed(l, &Seen::new(), t) {
         return None;

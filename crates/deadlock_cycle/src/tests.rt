@@ -112,6 +112,43 @@ fn two_readers(rt: HostRuntime) -> Result<(), AllocError> {
     Ok(())
 }
 
+/// The waiters of a cycle, 0 behind the last of them.
+fn waiters(c: Option<Cycle>) -> [u64; 4] {
+    let mut out = [0; 4];
+    if let Some(c) = c {
+        for (place, e) in out.iter_mut().zip(c.as_slice()) {
+            *place = e.waiter.0;
+        }
+    }
+    out
+}
+
+/// One waits for two and for three, two for three, and three for one: the way over two comes first, though it is longer.
+#[test]
+fn first_of_two(rt: HostRuntime) -> Result<(), AllocError> {
+    let mut l = LockTable::new(rt.alloc());
+    let three = TxnNo(3);
+    for t in [ONE, TWO, three] {
+        l.reserve(t, 4)?;
+    }
+    assert!(rt; has(&mut l, ONE, row(1), Mode::X2));
+    assert!(rt; has(&mut l, TWO, row(2), Mode::S2));
+    assert!(rt; has(&mut l, three, row(2), Mode::S2));
+    assert!(rt; has(&mut l, three, row(3), Mode::X2));
+    assert!(rt; !has(&mut l, TWO, row(3), Mode::U2));
+    assert!(rt; !has(&mut l, three, row(1), Mode::U2));
+    assert!(rt; cycle(&l, three).is_none());
+    assert!(rt; !has(&mut l, ONE, row(2), Mode::X2));
+    assert_eq!(rt; waiters(cycle(&l, ONE)), [1, 2, 3, 0]);
+    assert_eq!(rt; waiters(cycle(&l, three)), [3, 1, 2, 0]);
+    l.choose(TWO);
+    assert_eq!(rt; waiters(cycle(&l, ONE)), [1, 3, 0, 0]);
+    assert_eq!(rt; waiters(cycle(&l, TWO)), [0; 4]);
+    l.choose(three);
+    assert_eq!(rt; waiters(cycle(&l, ONE)), [0; 4]);
+    Ok(())
+}
+
 /// Each of 64 transactions waits for the next, and the last for the first.
 #[test]
 fn ring(rt: HostRuntime) -> Result<(), AllocError> {

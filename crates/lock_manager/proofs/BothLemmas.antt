@@ -27,11 +27,11 @@ txn_flip : (a b : TxnNo) (x : Bool) → same_txn a b ≡ x → same_txn b a ≡ 
 txn_flip a b x h = txn_equiv.symm b a ∙ h
 
 -- no transaction has two requests among these
-abbrev Apart : List Request → Type 0
+abbrev pub Apart : List Request → Type 0
 Apart [] = Unit {0}
 Apart (r ∷ rs) = (is_among r.txn rs ≡ false) × Apart rs
 
-apart_of : (os : Owners) (rs : List Request) → Waiters os rs → Apart rs
+pub apart_of : (os : Owners) (rs : List Request) → Waiters os rs → Apart rs
 apart_of os [] w = tt
 apart_of os (r ∷ rs) w = (w.1, apart_of os rs w.2)
 
@@ -70,7 +70,7 @@ without_others (x ∷ w) rs apart =
     ap (λ y. without_all w y) (without_none x.txn x.name rs (apart x.txn (or_left _ _ (txn_refl x.txn))))
     ∙ without_others w rs (λ u h. apart u (or_right (same_txn x.txn u) _ h))
 
-without_first : (r : Request) (rs : List Request) → is_among r.txn rs ≡ false → without_request r.txn r.name (r ∷ rs) ≡ rs
+pub without_first : (r : Request) (rs : List Request) → is_among r.txn rs ≡ false → without_request r.txn r.name (r ∷ rs) ≡ rs
 without_first r rs h =
     ap (λ b. cond (not b) (r ∷ without_request r.txn r.name rs) (without_request r.txn r.name rs)) (and_from _ _ (txn_refl r.txn) (name_refl r.name))
     ∙ without_none r.txn r.name rs h

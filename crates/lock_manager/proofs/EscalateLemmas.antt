@@ -14,7 +14,7 @@ use Rattle.lock_modes.specs.Escalation.{released_rows, IsAllRows, escalation}
 use Rattle.lock_modes.specs.Serving.{Serves, grants_of}
 use Rattle.lock_modes.proofs.EscalationLemmas.{rows_given_back}
 use Rattle.lock_manager.specs.declared.table.LockTable.{LockTable}
-use Rattle.lock_manager.specs.Table.{lock, woken_of, GivesRows, Escalates}
+use Rattle.lock_manager.specs.Table.{lock, woken_of, AreProper, GivesRows, Escalates}
 
 and_no : (a : Bool) → (a && false) ≡ false
 and_no true = refl
@@ -38,6 +38,7 @@ escalated old mid new t table mode is woken gives names all =
       noted = gives.noted ∙ ap (λ (x : List Request). x ++ gives.given) woken;
       order = subst (λ (x : Lock). Serves x.grants [] (queue x) gives.given (queue (lock new))) path gives.order;
       events = gives.events ∙ ap (λ (x : Lock). apply_all x (grants_of gives.given)) path;
+      proper = λ ever. subst (λ (x : Lock). AreProper x ever (grants_of gives.given)) path (gives.proper ever);
     }
 
 -- nothing of the spare is spent where something is held already

@@ -7,7 +7,9 @@ pub mod FreedLemmas
 pub mod ServeLemmas
 pub mod BlockedLemmas
 pub mod TableLemmas
+pub mod ChosenLemmas
 pub mod BothLemmas
+pub mod ProperLemmas
 pub mod TalliesLemmas
 pub mod NumberLemmas
 pub mod BlockingLemmas

@@ -2,7 +2,6 @@
 use Rattle.std.proofs.Common.{◌≡◌, ℕ, ◌+◌, ◌-◌, ◌<◌, ◌≤◌, Bool, true, false, refl, sym, ◌∙◌, ap, cond, List, [], ◌∷◌, ◌++◌, subst, ◌⊎◌, inl, inr, arith, Some, None, append_assoc, append-nil}
 use Rattle.std.specs.Prelude.{◌&&◌, ◌||◌, not, if◌then◌else◌, IsTrue, ◌↔◌}
 use Rattle.std.specs.List.{list_any, find}
-use Rattle.std.specs.Option.{IsSome, is_some}
 use Rattle.std.specs.Map.{lookup}
 use Rattle.std.proofs.lemmas.List.Folds.{list_any-append}
 use Rattle.std.proofs.lemmas.Bool.{both_ways}
@@ -193,10 +192,3 @@ pub more_left : (os os' : Owners) (t : TxnNo) (g : Grants) (n : ℕ) → Changes
 more_left os os' t g n c mine = everywhere (left_in os') (λ u. if same_txn t u then n else left_in os u) t
     (mine ∙ ap (λ b. if b then n else left_in os t) (sym (txn_refl t)))
     (λ u other. c.others_left u other ∙ ap (λ b. if b then n else left_in os u) (sym other))
-
--- who waits is among the requests
-pub among : (l : Lock) (t : TxnNo) → IsSome (waiting l t) → is_among t (queue l) ≡ true
-among l t some =
-    let cases = λ (b : Bool) (e : is_among t (queue l) ≡ b).
-    (elim b as (λ x. is_among t (queue l) ≡ x → x ≡ true) [ true ↦ λ _. refl | false ↦ λ h. absurd (both_ways _ (ap is_some (find_none (λ r. same_txn r.txn t) (queue l) h)) some) ]) e in
-    cases (is_among t (queue l)) refl

@@ -1,18 +1,19 @@
 -- A lock table as its callers see it.
-use Rattle.std.specs.Prelude.{◌≡◌, ◌⊎◌, ◌<◌, ◌-◌, ◌&&◌, not, ℕ, Bool, true, false, List, [], ◌++◌, if◌then◌else◌, Option, Some, None}
+use Rattle.std.specs.Prelude.{◌≡◌, ◌⊎◌, ◌<◌, ◌-◌, ◌&&◌, ◌∷◌, ◌||◌, not, ℕ, Bool, true, false, List, [], ◌++◌, if◌then◌else◌, Option, Some, None}
 use Rattle.dby_types.specs.declared.number.TxnNo.{TxnNo}
 use Rattle.lock_modes.specs.declared.entry.Request.{Request}
 use Rattle.lock_modes.specs.declared.event.LockEvent.{LockEvent}
-use Rattle.lock_modes.specs.Lock.{Lock, queue, apply_all}
+use Rattle.lock_modes.specs.declared.event.LockEvent.TheVariants.{Chosen}
+use Rattle.lock_modes.specs.Lock.{Lock, queue, has_grant, apply, apply_all}
 use Rattle.std.specs.List.{list_any}
 use Rattle.lock_modes.specs.declared.mode.Mode.{Mode}
 use Rattle.lock_modes.specs.declared.name.LockName.{LockName}
 use Rattle.lock_modes.specs.Modes.{hinders, is_covered, writes, is_ranged}
 use Rattle.lock_manager.specs.Serve.{contests}
 use Rattle.lock_modes.specs.Names.{same_txn, is_row_name}
-use Rattle.lock_modes.specs.Proper.{IsRefused, MayHave}
+use Rattle.lock_modes.specs.Proper.{IsProper, IsRefused, MayHave, chooses}
 use Rattle.lock_modes.specs.Serving.{Serves, grants_of}
-use Rattle.lock_modes.specs.Waits.{earlier, blocks}
+use Rattle.lock_modes.specs.Waits.{earlier, blocks, waiting}
 use Rattle.lock_modes.specs.Escalation.{released_rows, IsAllRows, escalation}
 use Rattle.lock_manager.specs.declared.table.LockTable.{LockTable}
 use Rattle.lock_manager.specs.declared.tried.Tried.{Tried}
@@ -45,12 +46,18 @@ abbrev pub IsHindrance : Lock → Request → Option TxnNo → Type 0
 IsHindrance l r None = MayHave l r
 IsHindrance l r (Some h) = (is_covered (l.grants r.txn r.name) r.mode ≡ false) × (blocks l.grants (earlier l r) r h ≡ true)
 
+-- events may come one after another
+abbrev pub AreProper : Lock → (TxnNo → Bool) → List LockEvent → Type 0
+AreProper l ever [] = Unit {0}
+AreProper l ever (e ∷ es) = IsProper l ever e × AreProper (apply l e) (λ t. chooses e t || ever t) es
+
 -- the events came, and then each queued request that could be granted was granted, in the order of the queue
 pub record Gives (old new : LockTable) (es : List LockEvent) : Type 0 where
   pub given : List Request
   pub noted : woken_of new ≡ woken_of old ++ given
   pub order : Serves (apply_all (lock old) es).grants [] (queue (apply_all (lock old) es)) given (queue (lock new))
   pub events : lock new ≡ apply_all (apply_all (lock old) es) (grants_of given)
+  pub proper : (ever : TxnNo → Bool) → AreProper (apply_all (lock old) es) ever (grants_of given)
 
 -- a transaction gave back its rows of a table, and then each queued request that could be granted was granted, in order
 pub record GivesRows (old new : LockTable) (t : TxnNo) (table : ℕ) : Type 0 where
@@ -58,10 +65,21 @@ pub record GivesRows (old new : LockTable) (t : TxnNo) (table : ℕ) : Type 0 wh
   pub noted : woken_of new ≡ woken_of old ++ given
   pub order : Serves (released_rows (lock old).grants t table) [] (queue (lock old)) given (queue (lock new))
   pub events : lock new ≡ apply_all (record (lock old) { grants = released_rows (lock old).grants t table }) (grants_of given)
+  pub proper : (ever : TxnNo → Bool) → AreProper (record (lock old) { grants = released_rows (lock old).grants t table }) ever (grants_of given)
 
 -- a table's mode was granted and its rows were given back, in whatever order, and then queued requests were granted
 abbrev pub Escalates : LockTable → LockTable → TxnNo → ℕ → Mode → Type 0
 Escalates old new t table mode = (names : List LockName) → IsAllRows (lock old) t table names → Gives old new (escalation t table mode names)
+
+-- a transaction has no grant, waits for nothing and may ask for nothing
+pub record IsStranger (v : LockTable) (t : TxnNo) : Type 0 where
+  pub nothing : (n : LockName) → has_grant (lock v).grants t n ≡ false
+  pub idle : waiting (lock v) t ≡ None
+  pub spare : spare_of v t ≡ 0
+
+-- a transaction was chosen; or nothing changed, where it's a stranger to the table
+abbrev pub IsNoted : LockTable → LockTable → TxnNo → Type 0
+IsNoted old new t = (lock new ≡ apply (lock old) (Chosen t)) ⊎ ((lock new ≡ lock old) × IsStranger old t)
 
 -- one name less is left to a transaction, unless it has something on the name already
 abbrev pub IsSpent : LockTable → LockTable → TxnNo → Bool → Type 0

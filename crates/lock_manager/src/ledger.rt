@@ -31,6 +31,7 @@ pub struct Ledger {
 }
 
 impl Ledger {
+    ghost use Rattle.std.specs.Option.{is_some};
     ghost use Rattle.std.specs.Prelude.{◌<◌, ◌-◌, ◌&&◌, ◌⊎◌, ℕ, true, false, not, [], OnOk, IsSome, is_ok, if◌then◌else◌, MatchOption};
     ghost use Rattle.dby_types.specs.declared.number.TxnNo.{TxnNo};
     ghost use Rattle.lock_modes.specs.declared.name.LockName.{LockName};
@@ -142,13 +143,12 @@ impl Ledger {
         owners::release_rows(&mut self.owners, txn, table);
     }
 
-    /// Notes a waiting transaction as a victim.
+    /// Notes a transaction that has a record as a victim.
     pub fn choose(&mut self, txn: TxnNo)
-        requires { waits_in self.old.owners.entries txn ≡ true }
         ensures changes { Changes self.old.owners.entries self.new.owners.entries txn (grants_in self.old.owners.entries) }
         ensures room { left_in self.new.owners.entries txn ≡ left_in self.old.owners.entries txn }
         ensures same { waits_in self.new.owners.entries txn ≡ waits_in self.old.owners.entries txn }
-        ensures victim { victim_in self.new.owners.entries txn ≡ true }
+        ensures victim { victim_in self.new.owners.entries txn ≡ is_some (owner_of self.old.owners.entries txn) }
     {
         owners::choose(&mut self.owners, txn);
     }

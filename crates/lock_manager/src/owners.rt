@@ -1,6 +1,7 @@
 //! The open transactions, with what each has.
 
 ghost use Rattle.std.specs.Prelude.{◌≡◌, ◌≤◌, ◌<◌, ◌+◌, ℕ, true, false, ◌⊎◌, ◌-◌, ◌&&◌, not, OnOk, OnErr, Some, None, IsSome, is_ok, if◌then◌else◌, MatchOption, length};
+ghost use Rattle.std.specs.Option.{is_some};
 ghost use Rattle.dby_types.specs.declared.number.TxnNo.{TxnNo};
 ghost use Rattle.lock_modes.specs.Modes.{hinders, is_held, is_ranged, writes};
 ghost use Rattle.lock_modes.specs.Waits.{IsNumber};
@@ -125,13 +126,12 @@ pub fn release_rows(owners: &mut Owners, txn: TxnNo, table: u32)
     }
 }
 
-/// Notes a waiting transaction as a victim.
+/// Notes a transaction that has a record as a victim.
 pub fn choose(owners: &mut Owners, txn: TxnNo)
-    requires { waits_in owners.old.entries txn ≡ true }
     ensures changes { Changes owners.old.entries owners.new.entries txn (grants_in owners.old.entries) }
     ensures room { left_in owners.new.entries txn ≡ left_in owners.old.entries txn }
     ensures same { waits_in owners.new.entries txn ≡ waits_in owners.old.entries txn }
-    ensures victim { victim_in owners.new.entries txn ≡ true }
+    ensures victim { victim_in owners.new.entries txn ≡ is_some (owner_of owners.old.entries txn) }
 {
     if let Some(owner) = owners.get_mut(&txn) {
         owner.choose();

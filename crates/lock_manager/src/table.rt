@@ -1,13 +1,13 @@
 //! The lock table: who has which locks, and who waits.
 
-ghost use Rattle.std.specs.Prelude.{◌≡◌, ◌⊎◌, ◌≤◌, ◌<◌, ◌+◌, ◌-◌, ◌&&◌, ◌||◌, ℕ, true, false, not, [], ◌∷◌, ◌++◌, Some, None, IsSome, OnOk, OnErr, IfOk, if◌then◌else◌, MatchOption, IsTrue, ◌↔◌, is_ok, length};
+ghost use Rattle.std.specs.Prelude.{◌≡◌, ◌⊎◌, ◌≤◌, ◌<◌, ◌+◌, ◌-◌, ◌&&◌, ◌||◌, ℕ, true, false, not, [], ◌∷◌, ◌++◌, Some, None, OnOk, OnErr, IfOk, if◌then◌else◌, MatchOption, IsTrue, ◌↔◌, is_ok, length};
 ghost use Rattle.dby_types.specs.declared.number.TxnNo.{TxnNo};
 ghost use Rattle.lock_modes.specs.Names.{same_txn, is_row_name};
 ghost use Rattle.lock_modes.specs.Lock.{no_locks, apply, request, has_grant, queue};
 ghost use Rattle.lock_modes.specs.Waits.{waiting, IsSettled, IsBlocked, AllBlocked, IsNumber};
 ghost use Rattle.lock_modes.specs.Proper.{IsRefused, MayHave};
 ghost use Rattle.lock_modes.specs.Apart.{IsApart};
-ghost use Rattle.lock_modes.specs.declared.event.LockEvent.TheVariants.{Granted, Queued, Released, ReleasedAll, Chosen};
+ghost use Rattle.lock_modes.specs.declared.event.LockEvent.TheVariants.{Granted, Queued, Released, ReleasedAll};
 ghost use Rattle.lock_manager.specs.Room.{HasRoom, Waiters-prop, AllBlocked-prop, IsApart-prop};
 ghost use Rattle.lock_manager.specs.Owners.{left_sum, waits_in, grants_in};
 ghost use Rattle.lock_manager.specs.Serve.{Waiters, is_among};
@@ -49,7 +49,7 @@ impl LockTable {
     ghost use Rattle.lock_modes.specs.declared.name.LockName.TheVariants.{Table};
     ghost use Rattle.lock_manager.specs.Blocking.{IsBlocker, IsUnblocked};
     ghost use Rattle.lock_manager.specs.Holders.{IsHolders};
-    ghost use Rattle.lock_manager.specs.Table.{lock, spare_of, woken_of, IsCause, IsHindrance, IsSpent, IsUncontested, Gives, WritesIn, HoldsGap, GivesRows, Escalates};
+    ghost use Rattle.lock_manager.specs.Table.{lock, spare_of, woken_of, IsCause, IsHindrance, IsSpent, IsUncontested, IsNoted, Gives, WritesIn, HoldsGap, GivesRows, Escalates};
 
     /// A table without locks.
     pub fn new(alloc: Global) -> LockTable
@@ -179,10 +179,9 @@ impl LockTable {
         !held && (!asked && !queued)
     }
 
-    /// Notes a waiting transaction as the victim of a cycle.
+    /// Notes a transaction as the victim of a cycle. One that has and asks for nothing, and has no spare, may go without a note.
     pub fn choose(&mut self, t: TxnNo)
-        requires waits { IsSome (waiting (lock self.old) t) }
-        ensures events { lock self.new ≡ apply (lock self.old) (Chosen t) }
+        ensures events { IsNoted self.old self.new t }
         ensures woken { woken_of self.new ≡ woken_of self.old }
         ensures room { (u : TxnNo) → spare_of self.new u ≡ spare_of self.old u }
     {

@@ -260,16 +260,7 @@ fn queue(rt: HostRuntime) -> Result<(), AllocError> {
     Ok(())
 }
 
-/// Notes a transaction as a victim, if it waits. Says whether it is one.
-fn chooses(l: &mut LockTable, t: TxnNo) -> bool {
-    if l.granted(t) {
-        return false;
-    }
-    l.choose(t);
-    l.is_victim(t)
-}
-
-/// Who waits can be chosen, and is no victim any more once all is given back.
+/// Who waits can be chosen, and is no victim any more once all is given back. So can who holds something, but not a stranger.
 #[test]
 fn victim(rt: HostRuntime) -> Result<(), AllocError> {
     let mut l = table(rt.alloc())?;
@@ -278,9 +269,20 @@ fn victim(rt: HostRuntime) -> Result<(), AllocError> {
         (TWO, ROW_1, Mode::S2, Tried::Conflict(ONE)),
     ];
     assert_eq!(rt; first_wrong(&mut l, &steps), None);
-    assert_eq!(rt; [chooses(&mut l, ONE), chooses(&mut l, TWO)], [false, true]);
+    let stranger = TxnNo(9);
+    l.choose(TWO);
+    l.choose(stranger);
+    assert_eq!(rt;
+        [ONE, TWO, stranger].map(|t| l.is_victim(t)),
+        [false, true, false]
+    );
+    l.choose(ONE);
+    assert!(rt; l.is_victim(ONE));
     l.release_all(TWO);
-    assert!(rt; !l.is_victim(TWO));
+    assert_eq!(rt;
+        [ONE, TWO, stranger].map(|t| l.is_victim(t)),
+        [true, false, false]
+    );
     l.laws();
     Ok(())
 }

@@ -1,4 +1,4 @@
-use Rattle.std.proofs.Common.{◌++◌, ◌∙◌, [], ap, sym, subst, arith}
+use Rattle.std.proofs.Common.{◌++◌, ◌∙◌, [], ap, refl, sym, subst, arith}
 use Rattle.lock_modes.specs.Lock.{Grants, released, apply}
 use Rattle.lock_modes.specs.Serving.{Serves}
 use Rattle.lock_modes.specs.declared.event.LockEvent.TheVariants.{Released}
@@ -9,7 +9,8 @@ use Rattle.lock_manager.specs.Table.{lock}
 use Rattle.lock_manager.proofs.BothLemmas.{only_left, settled_both, state_both}
 use Rattle.lock_manager.proofs.TableLemmas.{keep_total, keep_waits, keep_lefts, keep_victims, waiters_same, grants_path}
 use Rattle.lock_manager.proofs.TableLemmas.{apart_as}
-use Rattle.lock_manager.proofs.BothLemmas.{apart_both}
+use Rattle.lock_manager.proofs.BothLemmas.{apart_both, apart_of}
+use Rattle.lock_manager.proofs.ProperLemmas.{served_proper}
 use Rattle.lock_modes.proofs.ApartLemmas.{apart_released}
 use Rattle.lock_manager.proofs.table.LockTable.release.Goals as goal
 
@@ -55,11 +56,13 @@ returns-clause-ok c =
     let b = c.serve_both.ensures.served in
     let q' = c.serve_both.new.conversions.items ++ c.serve_both.new.requests.items in
     let v = keep_victims s.ledger.owners.entries os1 c.args.t after c.release.ensures.changes c.release.ensures.victim in
+    let order = subst (λ (g : Grants). Serves g [] (s.conversions.items ++ s.requests.items) b.woken q') path b.order in
     record {
       given = b.woken;
       noted = b.noted;
-      order = subst (λ (g : Grants). Serves g [] (s.conversions.items ++ s.requests.items) b.woken q') path b.order;
+      order = order;
       events = state_both os1 os2 (apply (lock s) (Released c.args.t c.args.name)) c.serve_both.new.conversions.items c.serve_both.new.requests.items s.woken.items c.serve_both.new.woken.items (victim_in os2) path (λ u. ap (λ f. f u) v) b;
+      proper = served_proper (apply (lock s) (Released c.args.t c.args.name)) [] (s.conversions.items ++ s.requests.items) b.woken q' refl (apart_of s.ledger.owners.entries (s.conversions.items ++ s.requests.items) s.waiters) order;
     }
 
 pub returns-clause-settled : goal.returns-clause-settled

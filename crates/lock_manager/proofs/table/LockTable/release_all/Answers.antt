@@ -1,4 +1,4 @@
-use Rattle.std.proofs.Common.{◌≡◌, Option, ◌++◌, ◌∙◌, [], List, ap, sym, subst, arith}
+use Rattle.std.proofs.Common.{◌≡◌, Option, ◌++◌, ◌∙◌, [], List, ap, refl, sym, subst, arith}
 use Rattle.lock_modes.specs.declared.entry.Request.{Request}
 use Rattle.lock_modes.specs.Lock.{Grants, released_all, without, apply}
 use Rattle.lock_modes.specs.Serving.{Serves}
@@ -21,7 +21,8 @@ use Rattle.lock_manager.specs.Table.{lock}
 use Rattle.lock_manager.proofs.BothLemmas.{waiters_gone, only_gone, only_left, settled_both, state_both}
 use Rattle.lock_manager.proofs.TableLemmas.{grants_path}
 use Rattle.lock_manager.proofs.TableLemmas.{apart_as}
-use Rattle.lock_manager.proofs.BothLemmas.{apart_both}
+use Rattle.lock_manager.proofs.BothLemmas.{apart_both, apart_of}
+use Rattle.lock_manager.proofs.ProperLemmas.{served_proper}
 use Rattle.lock_modes.proofs.ApartLemmas.{apart_released_all}
 use Rattle.lock_manager.proofs.table.LockTable.release_all.Goals as goal
 
@@ -89,11 +90,13 @@ returns-clause-ok c =
     (subst (λ (x : List Request). ServedBoth os1 os2 c.drop_requests.new.requests.items x c.serve_both.new.conversions.items c.serve_both.new.requests.items s.woken.items c.serve_both.new.woken.items) c.drop_requests-2.ensures.exact c.serve_both.ensures.served) in
     let path = grants_path os1 (released_all (grants_in os) c.args.t) c.remove-had.ensures.grants in
     let q' = c.serve_both.new.conversions.items ++ c.serve_both.new.requests.items in
+    let order = subst (λ (g : Grants). Serves g [] (cs ++ rs) served.woken q') path served.order in
     record {
       given = served.woken;
       noted = served.noted;
-      order = subst (λ (g : Grants). Serves g [] (cs ++ rs) served.woken q') path served.order;
+      order = order;
       events = state_both os1 os2 (apply (lock s) (ReleasedAll c.args.t)) c.serve_both.new.conversions.items c.serve_both.new.requests.items s.woken.items c.serve_both.new.woken.items (victim_in os2) path gone.victims served;
+      proper = served_proper (apply (lock s) (ReleasedAll c.args.t)) [] (cs ++ rs) served.woken q' refl (apart_of os1 (cs ++ rs) w1) order;
     }
 
 pub returns-clause-settled : goal.returns-clause-settled
