@@ -6,6 +6,7 @@ use Rattle.std.proofs.lemmas.List.{get_or_default}
 use Rattle.std.proofs.lemmas.List.Elements.{All-head, All-tail}
 use Rattle.std.proofs.lemmas.Bool.{ne_eqb}
 use Rattle.dby_types.specs.declared.number.ConnNo.{ConnNo}
+use Rattle.dby_types.specs.declared.number.RowId.{RowId}
 use Rattle.dby_types.specs.declared.number.TxnNo.{TxnNo}
 use Rattle.lock_modes.specs.declared.entry.Request.{Request}
 use Rattle.lock_modes.specs.Lock.{Lock, queue}
@@ -25,9 +26,9 @@ use Rattle.session_model.specs.Places.{locks_of}
 use Rattle.session_model.proofs.EntryLemmas.{quiet_others, started_kept}
 use Rattle.session_engine.specs.declared.session.Phase.TheVariants.{Idle, Resting}
 use Rattle.session_engine.specs.declared.session.Session.{Session}
-use Rattle.session_engine.specs.State.{State, Holds, SessionHolds, Busy, Waits, Mirrors, Reflects, PhaseHolds, IsStage, HaveSlots, AreUsers, scripts_of, world_of, txn_of}
+use Rattle.session_engine.specs.State.{State, Holds, SessionHolds, Busy, Waits, Reflects, PhaseHolds, IsStage, HaveSlots, AreUsers, scripts_of, world_of, txn_of}
 use Rattle.session_engine.proofs.QueueLemmas.{asks_of, find_later}
-use Rattle.session_engine.proofs.MoveLemmas.{store_holds, entered}
+use Rattle.session_engine.proofs.MoveLemmas.{store_holds, entered, described_same}
 use Rattle.session_engine.proofs.StepLemmas.{own_session, phase_at, stepping}
 use Rattle.session_engine.proofs.TellLemmas.{busy_at}
 
@@ -42,7 +43,7 @@ statement_at (s ∷ ss) (suc k) d n lt =
     ∙ statement_at ss k d n (omega arith)
 
 -- nobody asks in the name of a transaction that doesn't run
-absent : (t : TxnNo) (rs : List Request) → All (λ (r : Request). same_txn r.txn t ≡ false) rs → find (asks_of t) rs ≡ None
+pub absent : (t : TxnNo) (rs : List Request) → All (λ (r : Request). same_txn r.txn t ≡ false) rs → find (asks_of t) rs ≡ None
 absent t [] h = refl
 absent t (r ∷ rs) h = find_later (asks_of t) r rs (All-head (λ (q : Request). same_txn q.txn t ≡ false) r rs h)
     ∙ absent t rs (All-tail (λ (q : Request). same_txn q.txn t ≡ false) r rs h)
@@ -63,18 +64,47 @@ fresh_session st k r d lt at = get_or_default st.ss k d r lt ∙ sym at
 abbrev pub begun_txn : Txn → ℕ → Level → List ℕ → ℕ → Bool → Txn
 begun_txn x c level text count first = record x { stage = running; conn = c; level = level; text = text; started = count; first = first; begun = x.changes }
 
+-- the store opened this transaction, or left all as it was
+pub record OpensOnly (t : ℕ) (v v' : View) : Type 0 where
+  pub txns : (u : ℕ) → u ≢ t → v'.content.changes u ≡ v.content.changes u
+  pub heaps : (table : ℕ) (rid : RowId) → v'.content.heaps table rid ≡ v.content.heaps table rid
+  pub columns : (table : ℕ) → v'.content.columns table ≡ v.content.columns table
+  pub next : v'.content.next_container ≡ v.content.next_container
+  pub actors : (b : ℕ) → v'.actors b ≡ v.actors b
+  pub limit_same : v'.limit ≡ v.limit
+
+pub opened_only : (t : ℕ) (v v' : View) → v'.content ≡ record v.content { changes = at_number v.content.changes t (Some []); next_txn = t + 1 } → ((b : ℕ) → v'.actors b ≡ v.actors b) → v'.limit ≡ v.limit → OpensOnly t v v'
+opened_only t v v' content actors limit = record {
+  txns = λ u ne. ap (λ (d : Content). d.changes u) content ∙ at_other v.content.changes t (Some []) u ne;
+  heaps = λ b q. ap (λ (d : Content). d.heaps b q) content;
+  columns = λ b. ap (λ (d : Content). d.columns b) content;
+  next = ap (λ (d : Content). d.next_container) content;
+  actors = actors;
+  limit_same = limit;
+}
+
+pub left_alone : (t : ℕ) (v v' : View) → v'.content ≡ v.content → ((b : ℕ) → v'.actors b ≡ v.actors b) → v'.limit ≡ v.limit → OpensOnly t v v'
+left_alone t v v' content actors limit = record {
+  txns = λ u ne. ap (λ (d : Content). d.changes u) content;
+  heaps = λ b q. ap (λ (d : Content). d.heaps b q) content;
+  columns = λ b. ap (λ (d : Content). d.columns b) content;
+  next = ap (λ (d : Content). d.next_container) content;
+  actors = actors;
+  limit_same = limit;
+}
+
 -- IN A NEW TRANSACTION
 pub begins : (st : State) (last k : ℕ) (r s' : Session) (t : TxnNo) (c : ConnNo) (text : List ℕ) (v' : View)
     → k < length st.ss → r ≡ get_or st.ss k r → r.phase ≡ Idle → r.closed ≡ false → c.0 ≡ k + 1 → slice_get (statements_of r.script) r.begun ≡ Some text → last < t.0
-    → s'.txn ≡ t → s'.opened ≡ true → s'.queued ≡ false → s'.made.items ≡ [] → s'.begun ≡ r.begun + 1 → s'.level ≡ r.level → s'.automatic ≡ r.automatic → s'.script ≡ r.script → s'.spans ≡ r.spans → s'.closed ≡ r.closed
-    → v'.content ≡ record st.view.content { changes = at_number st.view.content.changes t.0 (Some []); next_txn = t.0 + 1 } → ((b : ℕ) → v'.actors b ≡ st.view.actors b) → v'.limit ≡ st.view.limit
+    → s'.txn ≡ t → s'.queued ≡ false → s'.made.items ≡ [] → s'.begun ≡ r.begun + 1 → s'.level ≡ r.level → s'.automatic ≡ r.automatic → s'.script ≡ r.script → s'.spans ≡ r.spans
+    → Reflects s'.opened (v'.content.changes t.0) [] → OpensOnly t.0 st.view v'
     → IsStage s'.phase running
-    → ((apply (world_of st.es) (entry.Started t c r.level (Unread text))).txns t.0 ≡ begun_txn no_txn c.0 r.level text (world_of st.es).count true → v'.content.changes t.0 ≡ Some []
+    → ((apply (world_of st.es) (entry.Started t c r.level (Unread text))).txns t.0 ≡ begun_txn no_txn c.0 r.level text (world_of st.es).count true
     → Busy (apply (world_of st.es) (entry.Started t c r.level (Unread text))) st.lock v' t.0 (k + 1) s'
     → PhaseHolds s'.phase (apply (world_of st.es) (entry.Started t c r.level (Unread text))) st.lock v' t.0 (k + 1) s')
     → Holds st last
     → Holds (record { es = st.es ++ entry.Started t c r.level (Unread text) ∷ []; ls = st.ls; lock = st.lock; ss = set st.ss k s'; view = v'; named = st.named }) t.0
-begins st last k r s' t c text v' lt at is still_open place next above txn opened queued made begun level automatic script spans closed content actors limit stage phase ok =
+begins st last k r s' t c text v' lt at is still_open place next above txn queued made begun level automatic script spans reflects store stage phase ok =
     let w = world_of st.es in
     let l = locks_of st.lock.grants in
     let e = entry.Started t c r.level (Unread text) in
@@ -88,7 +118,6 @@ begins st last k r s' t c text v' lt at is still_open place next above txn opene
     let kept : w'.conns (k + 1) ≡ record (w.conns (k + 1)) { begun = (w.conns (k + 1)).begun + 1; txn = Some t.0 } = subst (λ n. w'.conns n ≡ record (w.conns n) { begun = (w.conns n).begun + 1; txn = Some t.0 }) place (at_same w.conns c.0 _) in
     let free : All (λ (q : Request). q.txn.0 ≢ t.0) (queue st.lock) = not_running w st.lock t.0 (λ h. unborn_runs (sym (ap (λ (y : Txn). y.stage) new) ∙ h)) ok.waits in
     let waits : waiting st.lock t ≡ None = absent t (queue st.lock) (λ i d i_lt. ne_eqb (get_or (queue st.lock) i d).txn.0 t.0 (free i d i_lt)) in
-    let changed : v'.content.changes t.0 ≡ Some [] = ap (λ (d : Content). d.changes t.0) content ∙ at_same st.view.content.changes t.0 (Some []) in
     let busy : Busy w' st.lock v' t.0 (k + 1) s' = busy_at w' st.lock v' t.0 (k + 1) s' t txn (record {
       stage = subst (λ (y : Txn). IsStage s'.phase y.stage) (sym x) stage;
       conn = ap (λ (y : Txn). y.conn) x ∙ place;
@@ -96,7 +125,7 @@ begins st last k r s' t c text v' lt at is still_open place next above txn opene
       positive = omega (arith, above);
       numbered = omega arith;
       numbers = ap (λ (y : Txn). map (λ m. m.number) y.changes) x ∙ ap reverse (sym made);
-      reflects = subst (λ b. Reflects b (v'.content.changes t.0) (w'.txns t.0).changes) (sym opened) ([], changed, subst (λ (y : Txn). Mirrors [] y.changes) (sym x) tt);
+      reflects = subst (λ (y : Txn). Reflects s'.opened (v'.content.changes t.0) y.changes) (sym x) reflects;
       slots = subst (λ (y : Txn). HaveSlots v' y.changes) (sym x) tt;
       users = subst (λ (y : Txn). AreUsers y.changes) (sym x) tt;
       idle = λ q. waits;
@@ -107,7 +136,7 @@ begins st last k r s' t c text v' lt at is still_open place next above txn opene
       automatic = ap (λ (y : Conn). y.automatic) kept ∙ mine.automatic ∙ sym automatic;
       closed = λ on. ap (λ (y : Conn). y.closed) kept ∙ mine.closed still_open;
       spans = spans ∙ mine.spans ∙ ap spans_of (sym script);
-      phase = phase x changed busy;
+      phase = phase x busy;
     } in
     let old : (d : Session) → get_or st.ss k d ≡ r = λ d. fresh_session st k r d lt at in
     entered st last e t.0 k s' v' t.0
@@ -133,11 +162,11 @@ begins st last k r s' t c text v' lt at is still_open place next above txn opene
       positive = omega (arith, above);
       others = λ u ne. quiet_others t.0 w l w' refl refl (λ u ne. at_other w.txns t.0 _ u ne) u ne;
       store = record {
-        txns = λ u ne. ap (λ (d : Content). d.changes u) content ∙ at_other st.view.content.changes t.0 (Some []) u ne;
-        actors = λ b ne. actors b;
-        limit_same = limit;
-        heaps = λ u ne reads b q h. ap (λ (d : Content). d.heaps b q) content;
-        columns = λ u ne reads b. ap (λ (d : Content). d.columns b) content;
+        txns = store.txns;
+        actors = λ b ne. store.actors b;
+        limit_same = store.limit_same;
+        heaps = λ u ne reads b q h. store.heaps b q;
+        columns = λ u ne reads b. store.columns b;
       };
       conns = λ i ne. at_other w.conns c.0 _ i (λ same. ne (same ∙ place));
       apart = λ i s ne b same. (let below = b.numbered in omega (arith, below, same, above));
@@ -150,15 +179,16 @@ begins st last k r s' t c text v' lt at is still_open place next above txn opene
       last_is = ap (λ b. if b then t.0 else w.last) first;
       grows = omega (arith, above);
       below = omega arith;
-      given = subst (λ (d : Content). Each (λ n. n < d.next_container) w.given) (sym content) ok.given;
-      stored = λ b q. ap (λ (d : Content). live (d.heaps b q)) content ∙ ok.stored b q;
+      given = subst (λ m. Each (λ n. n < m) w.given) (sym store.next) ok.given;
+      stored = λ b q. ap live (store.heaps b q) ∙ ok.stored b q;
       dictionary = ok.dictionary;
+      described = described_same st.view v' st.named store.columns ok.described;
     }) ok
 
 -- IN THE OPEN ONE
 pub resumes : (st : State) (last k : ℕ) (r s' : Session) (c : ConnNo) (text : List ℕ)
     → k < length st.ss → r ≡ get_or st.ss k r → r.phase ≡ Resting → r.closed ≡ false → c.0 ≡ k + 1 → slice_get (statements_of r.script) r.begun ≡ Some text
-    → s'.txn ≡ r.txn → s'.opened ≡ true → s'.queued ≡ false → s'.made.items ≡ r.made.items → s'.begun ≡ r.begun + 1 → s'.level ≡ r.level → s'.automatic ≡ r.automatic → s'.script ≡ r.script → s'.spans ≡ r.spans → s'.closed ≡ r.closed
+    → s'.txn ≡ r.txn → s'.opened ≡ true → s'.queued ≡ false → s'.made.items ≡ r.made.items → s'.begun ≡ r.begun + 1 → s'.level ≡ r.level → s'.automatic ≡ r.automatic → s'.script ≡ r.script → s'.spans ≡ r.spans
     → IsStage s'.phase running
     → ((apply (world_of st.es) (entry.Started r.txn c r.level (Unread text))).txns (txn_of r) ≡ begun_txn ((world_of st.es).txns (txn_of r)) c.0 r.level text (world_of st.es).count false
     → Reflects true (st.view.content.changes (txn_of r)) ((world_of st.es).txns (txn_of r)).changes
@@ -166,7 +196,7 @@ pub resumes : (st : State) (last k : ℕ) (r s' : Session) (c : ConnNo) (text : 
     → PhaseHolds s'.phase (apply (world_of st.es) (entry.Started r.txn c r.level (Unread text))) st.lock st.view last (k + 1) s')
     → Holds st last
     → Holds (record { es = st.es ++ entry.Started r.txn c r.level (Unread text) ∷ []; ls = st.ls; lock = st.lock; ss = set st.ss k s'; view = st.view; named = st.named }) last
-resumes st last k r s' c text lt at is still_open place next txn opened queued made begun level automatic script spans closed stage phase ok =
+resumes st last k r s' c text lt at is still_open place next txn opened queued made begun level automatic script spans stage phase ok =
     let w = world_of st.es in
     let l = locks_of st.lock.grants in
     let a = txn_of r in
@@ -222,4 +252,4 @@ resumes st last k r s' c text lt at is still_open place next txn opened queued m
     (stepping st last w' k r s' st.view lt at busy p.1 (quiet_others a w l w' refl refl (λ u ne. at_other w.txns a _ u ne))
     (store_holds l a (k + 1) st.view st.view refl (λ b ne. refl) refl)
     (λ i ne. at_other w.conns c.0 _ i (λ same. ne (same ∙ place))) own (inl (ap (λ n. n.0) txn)) script (omega arith)
-    (ap (λ b. if b then a else w.last) first ∙ ok.last_is) ok.given ok.stored ok.dictionary) ok
+    (ap (λ b. if b then a else w.last) first ∙ ok.last_is) ok.given ok.stored ok.dictionary ok.described) ok

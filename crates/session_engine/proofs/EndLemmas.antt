@@ -23,13 +23,13 @@ use Rattle.store_api.specs.View.{View, Content, Heaps, live, at_number, put_slot
 use Rattle.journal_model.specs.declared.journal.Entry.TheVariants as entry
 use Rattle.journal_model.specs.World.{at_number as number_at}
 use Rattle.journal_model.proofs.BaseLemmas.{at_same, at_other}
-use Rattle.session_model.specs.World.{World, Txn, Conn, Stage, opening, leaving, settled, over, apply, after_undone, closes_by_undone, is_returnable, is_untold, is_leaving}
+use Rattle.session_model.specs.World.{World, Txn, Conn, Stage, opening, resting, leaving, settled, over, apply, after_undone, closes_by_undone, is_returnable, is_untold, is_leaving}
 use Rattle.session_model.specs.Places.{Locks, Fits, Written, locks_of, is_catalog}
 use Rattle.session_model.proofs.PlaceLemmas.{here, elsewhere, put_elsewhere, rid_is}
 use Rattle.session_model.proofs.BaseLemmas.{replay_push}
 use Rattle.session_model.proofs.EntryLemmas.{quiet_others, acknowledged_kept, rolled_back_kept, undone_others, undone_kept, lawful_of}
 use Rattle.session_model.proofs.FitLemmas.{SameCatalog, defines_same, other_way}
-use Rattle.session_engine.specs.declared.session.Phase.TheVariants.{Idle, Refusing, Acknowledging, Leaving}
+use Rattle.session_engine.specs.declared.session.Phase.TheVariants.{Idle, Resting, Refusing, Acknowledging, Leaving}
 use Rattle.session_engine.specs.declared.session.Plan.{Plan}
 use Rattle.session_engine.specs.declared.session.Plan.TheVariants as plan
 use Rattle.session_model.specs.declared.order.Order.{Order}
@@ -40,7 +40,7 @@ use Rattle.session_engine.specs.declared.session.Session.{Session}
 use Rattle.session_engine.specs.Noted.{noted}
 use Rattle.session_engine.specs.Dictionary.{Named, IsDictionary, definition_of}
 use Rattle.session_engine.specs.State.{State, Holds, SessionHolds, Busy, Refuses, RefusesFor, Stands, Mirrors, Reflects, PhaseHolds, IsStage, WaitsNot, HaveSlots, AreUsers, world_of, txn_of}
-use Rattle.session_engine.proofs.MoveLemmas.{store_holds, entered, moved}
+use Rattle.session_engine.proofs.MoveLemmas.{store_holds, entered, moved, described_same}
 use Rattle.session_engine.proofs.EventLemmas.{gone, served}
 use Rattle.session_engine.proofs.StepLemmas.{own_session, phase_at, asks_nothing, stepping}
 
@@ -251,7 +251,8 @@ undoes st last k r made v' did table rid before rest lt at busy quiet pop return
     (subst (λ (d : Content). Each (λ m. m < d.next_container) w.given) (sym content) ok.given)
     (λ b q. ap (λ (d : Content). live (d.heaps b q)) content ∙ live_back st.view.content.heaps table rid before n.made.change.old n.old_is there b q w.current (ok.stored b q) ∙ ap (λ (f : Tables). f b q) (sym current))
     (dictionary_same w.current w'.current st.named (λ b q c. sym (ap (λ (f : Tables). f b q) current
-    ∙ put_elsewhere w.current table rid n.made.change.old b q (elsewhere table rid b q (λ same row. both_ways _ user (subst (λ y. is_catalog y ≡ true) same c))))) ok.dictionary)) ok
+    ∙ put_elsewhere w.current table rid n.made.change.old b q (elsewhere table rid b q (λ same row. both_ways _ user (subst (λ y. is_catalog y ≡ true) same c))))) ok.dictionary)
+    (described_same st.view v' st.named (λ n. ap (λ (d : Content). d.columns n) content) ok.described)) ok
 
 -- .. of a refused statement
 pub undoes_statement : (st : State) (last k : ℕ) (r : Session) (made : Vec ℕ Global) (v' : View) (why : Refusal) (did table : ℕ) (rid : RowId) (before : Option Slot) (rest : List Item)
@@ -375,7 +376,7 @@ rolled_back st last k r closed made order planned v' lt at is shut empty none en
     (λ live. or_from _ _ (ap (λ x. not (is_leaving x)) (p.2 (shut live))) (at_conn w a (k + 1) busy.conn (λ y. y.closed) ∙ mine.closed (shut live))) refl mine.spans empty)
     (inr ends.gone) refl (omega arith) ok.last_is
     (subst (λ n. Each (λ m. m < n) w.given) (sym ends.containers) ok.given)
-    (λ b q. ap live (ends.heaps b q) ∙ ok.stored b q) ok.dictionary) ok
+    (λ b q. ap live (ends.heaps b q) ∙ ok.stored b q) ok.dictionary (described_same st.view v' st.named ends.columns ok.described)) ok
 
 -- .. by an acknowledged commit
 pub acknowledged : (st : State) (last k : ℕ) (r : Session) (made : Vec ℕ Global) (order : Option Order) (planned : Plan)
@@ -399,7 +400,7 @@ acknowledged st last k r made order planned lt at is empty ok =
     (idles w w' st.lock st.view last (k + 1) r r.closed made order planned _ p.1 (conn_at w a (k + 1) _ busy.conn)
     (at_conn w a (k + 1) busy.conn (λ y. y.begun) ∙ mine.begun) (at_conn w a (k + 1) busy.conn (λ y. y.level) ∙ mine.level) (at_conn w a (k + 1) busy.conn (λ y. y.automatic) ∙ mine.automatic)
     (λ live. at_conn w a (k + 1) busy.conn (λ y. y.closed) ∙ mine.closed live) refl mine.spans empty)
-    (inr reflects.0) refl (omega arith) ok.last_is ok.given ok.stored ok.dictionary) ok
+    (inr reflects.0) refl (omega arith) ok.last_is ok.given ok.stored ok.dictionary ok.described) ok
 
 -- ALL LOCKS GO, and what can be granted is granted, all at one place
 pub releases : (st : State) (last place : ℕ) (a : TxnNo) (old new : LockTable) → place ≡ length st.es → lock old ≡ st.lock → ((world_of st.es).txns a.0).stage ≡ over → ((world_of st.es).txns a.0).changes ≡ []
@@ -503,7 +504,7 @@ own_pages st last k r v' lt at busy quiet content actors limit phase ok =
     (record { begun = mine.begun; level = mine.level; automatic = mine.automatic; closed = mine.closed; spans = mine.spans; phase = phase })
     (inl refl) refl (omega arith) ok.last_is
     (subst (λ (x : Content). Each (λ n. n < x.next_container) w.given) (sym content) ok.given)
-    (λ table rid. ap (λ (x : Content). live (x.heaps table rid)) content ∙ ok.stored table rid) ok.dictionary) ok
+    (λ table rid. ap (λ (x : Content). live (x.heaps table rid)) content ∙ ok.stored table rid) ok.dictionary (described_same st.view v' st.named (λ n. ap (λ (x : Content). x.columns n) content) ok.described)) ok
 
 pub busy_pages : (w : World) (l : Lock) (v v' : View) (last c : ℕ) (r : Session) → v'.content ≡ v.content → Busy w l v last c r → Busy w l v' last c r
 busy_pages w l v v' last c r e h = record {
@@ -519,7 +520,7 @@ busy_pages w l v v' last c r e h = record {
   idle = h.idle;
 }
 
-refuses_still : (w : World) (l : Lock) (v v' : View) (r : Session) (why : Refusal) → v'.content ≡ v.content → Refuses w l v r why → Refuses w l v' r why
+pub refuses_still : (w : World) (l : Lock) (v v' : View) (r : Session) (why : Refusal) → v'.content ≡ v.content → Refuses w l v r why → Refuses w l v' r why
 refuses_still w l v v' r why e h = record {
   first = h.first;
   shown = h.shown;
@@ -556,3 +557,52 @@ pub leaves_done : (st : State) (last k : ℕ) (r : Session) → k < length st.ss
 leaves_done st last k r lt at is opened none ok =
     let mine = own_session st last k r lt at ok in
     nothing_left (world_of st.es) st.lock st.view last (k + 1) r (phase_at Leaving (world_of st.es) st.lock st.view last (k + 1) r is mine).0 opened none
+
+-- a transaction that the store never had has changed nothing
+not_there : (o : Bool) (items : Option (List Item)) (ms : List Made) → o ≡ false → Reflects o items ms → (items ≡ None) × (ms ≡ [])
+not_there true items ms e h = absurd (both_ways true e refl)
+not_there false items ms e h = h
+
+pub never_there : (st : State) (last k : ℕ) (r : Session) → k < length st.ss → r ≡ get_or st.ss k r → r.phase ≡ Leaving → r.opened ≡ false → Holds st last
+    → (st.view.content.changes (txn_of r) ≡ None) × (((world_of st.es).txns (txn_of r)).changes ≡ [])
+never_there st last k r lt at is shut ok =
+    let p = phase_at Leaving (world_of st.es) st.lock st.view last (k + 1) r is (own_session st last k r lt at ok) in
+    not_there r.opened (st.view.content.changes (txn_of r)) ((world_of st.es).txns (txn_of r)).changes shut p.0.reflects
+
+-- THE SCRIPT HAS ENDED: what is open is to be taken back
+pub gives_up : (st : State) (last k : ℕ) (r : Session) → k < length st.ss → r ≡ get_or st.ss k r → r.phase ≡ Resting → Holds st last
+    → Holds (record { es = st.es; ls = st.ls; lock = st.lock; ss = set st.ss k (record r { phase = Leaving; closed = true }); view = st.view; named = st.named }) last
+gives_up st last k r lt at is ok =
+    let w = world_of st.es in
+    let s' : Session = record r { phase = Leaving; closed = true } in
+    let mine = own_session st last k r lt at ok in
+    let p = phase_at Resting w st.lock st.view last (k + 1) r is mine in
+    let busy = p.0 in
+    let rests : (w.txns (txn_of r)).stage ≡ resting = subst (λ q. IsStage q (w.txns (txn_of r)).stage) is busy.stage in
+    moved st last (txn_of r) k s' st.view (stepping st last w k r s' st.view lt at busy p.1
+    (λ t ne. record { txn = refl; reads = λ table rid h. h; writes = λ table rid h. h; committed = λ table rid h. refl; current = λ table rid h. refl; whole = λ h table rid. (refl, refl) })
+    (store_holds (locks_of st.lock.grants) (txn_of r) (k + 1) st.view st.view refl (λ b ne. refl) refl) (λ i ne. refl)
+    (record {
+      begun = mine.begun;
+      level = mine.level;
+      automatic = mine.automatic;
+      closed = λ live. absurd (both_ways true live refl);
+      spans = mine.spans;
+      phase = (
+        record {
+          stage = ap is_returnable rests;
+          conn = busy.conn;
+          mine = busy.mine;
+          positive = busy.positive;
+          numbered = busy.numbered;
+          numbers = busy.numbers;
+          reflects = busy.reflects;
+          slots = busy.slots;
+          users = busy.users;
+          idle = busy.idle;
+        },
+        p.1,
+        λ live. absurd (both_ways true live refl),
+      );
+    })
+    (inl refl) refl (omega arith) ok.last_is ok.given ok.stored ok.dictionary ok.described) ok

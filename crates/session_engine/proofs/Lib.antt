@@ -1,3 +1,5 @@
+pub mod ScanLemmas
+pub mod LookupLemmas
 pub mod StableLemmas
 pub mod QueueLemmas
 pub mod MoveLemmas
@@ -11,3 +13,9 @@ pub mod RoomLemmas
 pub mod ReleaseLemmas
 pub mod CountLemmas
 pub mod OpeningLemmas
+pub mod TextLemmas
+pub mod StartLemmas
+pub mod WantLemmas
+pub mod FitLemmas
+pub mod BindLemmas
+pub mod ReadLemmas

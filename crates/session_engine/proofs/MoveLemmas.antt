@@ -26,8 +26,8 @@ use Rattle.session_model.proofs.BaseLemmas.{replay_push}
 use Rattle.session_model.proofs.FitLemmas.{SameCatalog, defines_same}
 use Rattle.session_model.proofs.GrowingLemmas.{legal_entry}
 use Rattle.session_engine.specs.declared.session.Session.{Session}
-use Rattle.session_engine.specs.Dictionary.{Among, IsDictionary}
-use Rattle.session_engine.specs.State.{State, Holds, SessionHolds, Busy, LockKept, Waits, scripts_of, world_of, txn_of}
+use Rattle.session_engine.specs.Dictionary.{Named, Among, IsDictionary}
+use Rattle.session_engine.specs.State.{State, AreDescribed, Holds, SessionHolds, Busy, LockKept, Waits, scripts_of, world_of, txn_of}
 use Rattle.session_engine.proofs.StableLemmas.{session_kept, catalog_kept}
 
 -- NUMBERS OF TRANSACTIONS that the connections have
@@ -110,6 +110,10 @@ pins_hold w l s = record {
   commits = s.commits;
 }
 
+-- the tables stay described, where no column list changes
+pub described_same : (v v' : View) (named : List Named) → ((n : ℕ) → v'.content.columns n ≡ v.content.columns n) → AreDescribed v named → AreDescribed v' named
+described_same v v' named same h = λ e a. same e.1.number ∙ h e a
+
 -- WHAT A STEP OWES: of transaction a, by the connection at place k, whose session becomes s'
 pub record Stepping (st : State) (last : ℕ) (w' : World) (a k : ℕ) (s' : Session) (v' : View) (last' : ℕ) : Type 0 where
   pub within : k < length st.ss
@@ -130,6 +134,7 @@ pub record Stepping (st : State) (last : ℕ) (w' : World) (a k : ℕ) (s' : Ses
   pub given : Each (λ n. n < v'.content.next_container) w'.given
   pub stored : (table : ℕ) (rid : RowId) → live (v'.content.heaps table rid) ≡ w'.current table rid
   pub dictionary : IsDictionary w'.current st.named
+  pub described : AreDescribed v' st.named
 
 -- the parts that are the same whether there is an entry or not
 each_after : (st : State) (last : ℕ) (w' : World) (a k : ℕ) (s' : Session) (v' : View) (last' : ℕ) → Stepping st last w' a k s' v' last' → Holds st last
@@ -215,6 +220,7 @@ entered st last e a k s' v' last' entry span shared h ok =
       holders = holders_after st last w' a k s' v' last' h ok;
       few = (let same = length-set st.ss k s' in let few = ok.few in let lim = h.store.limit_same in omega (arith, same, few, lim));
       dictionary = subst (λ v. IsDictionary v.current st.named) at h.dictionary;
+      described = h.described;
     }
 
 -- NO ENTRY
@@ -241,4 +247,5 @@ moved st last a k s' v' h ok =
       holders = holders_after st last w' a k s' v' last h ok;
       few = (let same = length-set st.ss k s' in let few = ok.few in let lim = h.store.limit_same in omega (arith, same, few, lim));
       dictionary = h.dictionary;
+      described = h.described;
     }

@@ -118,6 +118,7 @@ opened ss v new empty few = record {
   holders = λ b h. absurd (h (empty.held b));
   few = few;
   dictionary = record { there = λ e a. absurd a; only = λ d h. absurd (none_defined d h); user = λ e a. absurd a };
+  described = λ e a. absurd a;
 }
 
 -- and nothing is owed

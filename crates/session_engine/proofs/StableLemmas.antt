@@ -1,13 +1,15 @@
 -- A connection's own part is stable under the steps of the others: once for all phases.
-use Rattle.std.proofs.Common.{◌≡◌, ◌≢◌, ℕ, ◌<◌, ◌≤◌, List, [], ◌∷◌, length, true, sym, ◌∙◌, ap, subst, arith, inl, inr, None}
+use Rattle.std.proofs.Common.{◌≡◌, ◌≢◌, ℕ, ◌<◌, ◌≤◌, List, [], ◌∷◌, ◌++◌, length, true, sym, ◌∙◌, ap, subst, arith, inl, inr, Option, Some, None}
 use Rattle.std.specs.Prelude.{map}
 use Rattle.dby_types.specs.declared.number.RowId.{RowId}
 use Rattle.lock_modes.specs.declared.mode.Mode.{Mode}
+use Rattle.lock_modes.specs.declared.mode.Mode.TheVariants.{TS, TX}
 use Rattle.lock_modes.specs.declared.name.LockName.{LockName}
-use Rattle.lock_modes.specs.declared.name.LockName.TheVariants.{Dictionary}
+use Rattle.lock_modes.specs.declared.name.LockName.TheVariants.{Dictionary, Table}
 use Rattle.lock_modes.specs.Lock.{Lock}
 use Rattle.table_model.specs.Tables.{Made, Each, laid_over}
-use Rattle.store_api.specs.View.{View, changes_in}
+use Rattle.store_api.specs.Order.{StandsBehind, IsFirstBehind}
+use Rattle.store_api.specs.View.{View, Heaps, changes_in}
 use Rattle.journal_model.specs.declared.journal.Refusal.{Refusal}
 use Rattle.sql_commands.specs.declared.command.Command.{Command}
 use Rattle.journal_model.specs.Meaning.{is_long}
@@ -16,13 +18,19 @@ use Rattle.session_model.specs.World.{World, Txn, Conn, seen}
 use Rattle.session_model.specs.Legal.{HasEvidence, dictionary_mode}
 use Rattle.session_model.specs.Places.{Shared, Others, ReadsCatalog, locks_of, is_catalog}
 use Rattle.session_model.proofs.PlaceLemmas.{laid_over_same}
-use Rattle.session_model.proofs.FitLemmas.{evidence_same}
+use Rattle.session_model.proofs.FitLemmas.{evidence_same, defines_same}
 use Rattle.session_engine.specs.declared.session.Phase.{Phase}
 use Rattle.session_engine.specs.declared.session.Phase.TheVariants.{Idle, Resting, Asking, Preparing, Claiming, Working, Refusing, Committing, Forcing, Acknowledging, Leaving}
 use Rattle.session_engine.specs.declared.session.Plan.{Plan}
 use Rattle.session_engine.specs.declared.session.Plan.TheVariants as plan
+use Rattle.session_engine.specs.declared.session.Scan.{Scan}
+use Rattle.session_engine.specs.declared.session.Where.{Where}
+use Rattle.session_engine.specs.declared.session.Where.TheVariants.{Lost, At, Ended}
+use Rattle.session_engine.specs.Scanning.{IsWhere}
+use Rattle.session_engine.specs.declared.session.Fill.{Fill}
 use Rattle.session_engine.specs.declared.session.Session.{Session}
-use Rattle.session_engine.specs.State.{IsStage, Reflects, Stands, HaveSlots, AreUsers, Busy, IsPromised, Runs, Asks, Prepares, Commands, IsShown, Refuses, Works, RefusesFor, PhaseHolds, SessionHolds, LockKept, Beside, txn_of}
+use Rattle.session_engine.proofs.ScanLemmas.{scanned_same}
+use Rattle.session_engine.specs.State.{IsStage, Reflects, Stands, HaveSlots, AreUsers, Busy, IsPromised, Runs, Asks, Prepares, Commands, Selects, Scans, Inserts, Fills, Waiting, Mirrors, Claims, IsShown, Refuses, Works, RefusesFor, PhaseHolds, SessionHolds, LockKept, Beside, txn_of}
 
 each_both : {X : Type 0} → (P R Q : X → Type 0) → ((x : X) → P x → R x → Q x) → (xs : List X) → Each P xs → Each R xs → Each Q xs
 each_both P R Q f [] h k = tt
@@ -92,11 +100,114 @@ refuses_kept w l v w' l' v' c s why b h = record {
   stands = subst (λ (x : Txn). Stands s.mark (changes_in (v'.content.changes (txn_of s))) x) (sym b.others.txn) (subst (λ i. Stands s.mark (changes_in i) (w.txns (txn_of s))) (sym b.changes) h.stands);
 }
 
-works_kept : (p : Plan) (w : World) (l : Lock) (v : View) (w' : World) (l' : Lock) (v' : View) (c : ℕ) (s : Session) → Beside s.txn c w l v w' l' v' → w.count ≤ w'.count → Works w l v s p → Works w' l' v' s p
+selects_kept : (w : World) (l : Lock) (v : View) (w' : World) (l' : Lock) (v' : View) (c : ℕ) (s : Session) (scan : Scan) → Beside s.txn c w l v w' l' v' → w.count ≤ w'.count → Selects w l v s scan → Selects w' l' v' s scan
+selects_kept w l v w' l' v' c s scan b more h = let e = b.others.txn in record {
+  runs = runs_kept w w' s e more h.runs;
+  marked = ap (λ i. length (changes_in i)) b.changes ∙ h.marked;
+  unchanged = subst (λ (x : Txn). x.changes ≡ x.begun) (sym e) h.unchanged;
+  name = h.name;
+  order = ap (λ (x : Txn). order_of x.text) e ∙ h.order;
+  catalog = reads_kept (txn_of s) w l w' l' b.others h.catalog;
+  target = record {
+    def = h.target.def;
+    defined = defines_same (seen w (txn_of s)) (seen w' (txn_of s)) (catalog_kept (txn_of s) w l w' l' b.others h.catalog) h.target.def h.target.defined;
+    named = h.target.named;
+  };
+  number = h.number;
+  user = h.user;
+  names = h.names;
+}
+
+-- a place stays where it is, in a heap of which nothing changed
+there_kept : (f g : Heaps) (n : ℕ) (after found : Option RowId) → ((r : RowId) → g n r ≡ f n r) → StandsBehind f n after found → StandsBehind g n after found
+there_kept f g n after None same s = tt
+there_kept f g n after (Some rid) same s = (s.0, same rid ∙ s.1, s.2)
+
+first_kept : (f g : Heaps) (n : ℕ) (after found : Option RowId) → ((r : RowId) → g n r ≡ f n r) → IsFirstBehind f n after found → IsFirstBehind g n after found
+first_kept f g n after found same h = record { there = there_kept f g n after found same h.there; first = λ r behind before. same r ∙ h.first r behind before }
+
+where_kept : (f g : Heaps) (n : ℕ) (after : Option RowId) (at : Where) → ((r : RowId) → g n r ≡ f n r) → IsWhere f n after at → IsWhere g n after at
+where_kept f g n after Lost same h = h
+where_kept f g n after (At rid) same h = first_kept f g n after (Some rid) same h
+where_kept f g n after Ended same h = first_kept f g n after None same h
+
+scans_kept : (w : World) (l : Lock) (v : View) (w' : World) (l' : Lock) (v' : View) (c : ℕ) (s : Session) (scan : Scan) → Beside s.txn c w l v w' l' v' → w.count ≤ w'.count → Scans w l v s scan → Scans w' l' v' s scan
+scans_kept w l v w' l' v' c s scan b more h = record {
+  selects = selects_kept w l v w' l' v' c s scan b more h.selects;
+  reads = λ rid. b.others.reads scan.number rid (h.reads rid);
+  read = scanned_same (w.current scan.number) (w'.current scan.number) scan.after scan.tuples.items (λ rid. b.others.current scan.number rid (h.reads rid)) h.read;
+  rows = h.rows;
+  at = where_kept v.content.heaps v'.content.heaps scan.number scan.after scan.at (λ rid. b.heaps h.selects.catalog scan.number rid (h.reads rid)) h.at;
+}
+
+inserts_kept : (w : World) (l : Lock) (v : View) (w' : World) (l' : Lock) (v' : View) (c : ℕ) (s : Session) (fill : Fill) → Beside s.txn c w l v w' l' v' → w.count ≤ w'.count → Inserts w l s fill → Inserts w' l' s fill
+inserts_kept w l v w' l' v' c s fill b more h = let e = b.others.txn in record {
+  runs = runs_kept w w' s e more h.runs;
+  name = h.name;
+  tuples = h.tuples;
+  order = ap (λ (x : Txn). order_of x.text) e ∙ h.order;
+  catalog = reads_kept (txn_of s) w l w' l' b.others h.catalog;
+  suits = record {
+    target = record {
+      def = h.suits.target.def;
+      defined = defines_same (seen w (txn_of s)) (seen w' (txn_of s)) (catalog_kept (txn_of s) w l w' l' b.others h.catalog) h.suits.target.def h.suits.target.defined;
+      named = h.suits.target.named;
+    };
+    suited = h.suits.suited;
+  };
+  whole = h.whole;
+  number = h.number;
+  user = h.user;
+  count = h.count;
+}
+
+stands_kept : (w w' : World) (v v' : View) (s : Session) → w'.txns (txn_of s) ≡ w.txns (txn_of s) → v'.content.changes (txn_of s) ≡ v.content.changes (txn_of s)
+    → Stands s.mark (changes_in (v.content.changes (txn_of s))) (w.txns (txn_of s)) → Stands s.mark (changes_in (v'.content.changes (txn_of s))) (w'.txns (txn_of s))
+stands_kept w w' v v' s e f h = record {
+  own_items = h.own_items;
+  base = h.base;
+  own = h.own;
+  items_are = ap changes_in f ∙ h.items_are;
+  length_is = h.length_is;
+  changes_are = subst (λ (x : Txn). x.changes ≡ h.own ++ x.begun) (sym e) h.changes_are;
+  mirrors_own = h.mirrors_own;
+  mirrors_base = subst (λ (x : Txn). Mirrors h.base x.begun) (sym e) h.mirrors_base;
+}
+
+fills_kept : (w : World) (l : Lock) (v : View) (w' : World) (l' : Lock) (v' : View) (c : ℕ) (s : Session) (fill : Fill) → Beside s.txn c w l v w' l' v' → w.count ≤ w'.count → Fills w l v c s fill → Fills w' l' v' c s fill
+unfolding inserts_kept stands_kept
+fills_kept w l v w' l' v' c s fill b more h = record {
+  inserts = inserts_kept w l v w' l' v' c s fill b more h.inserts;
+  writes = λ rid. b.others.writes fill.number rid (h.writes rid);
+  stands = stands_kept w w' v v' s b.others.txn b.changes h.stands;
+  done = h.done;
+  rest = h.rest;
+  puts = h.puts;
+  room = λ on. ap (λ x. x.room) b.actor ∙ h.room on;
+}
+
+waiting_kept : (w : World) (l : Lock) (v : View) (w' : World) (l' : Lock) (v' : View) (c : ℕ) (s : Session) (fill : Fill) → Beside s.txn c w l v w' l' v' → w.count ≤ w'.count → Waiting w l v s fill → Waiting w' l' v' s fill
+unfolding inserts_kept
+waiting_kept w l v w' l' v' c s fill b more h = record {
+  inserts = inserts_kept w l v w' l' v' c s fill b more h.inserts;
+  marked = ap (λ i. length (changes_in i)) b.changes ∙ h.marked;
+  unchanged = subst (λ (x : Txn). x.changes ≡ x.begun) (sym b.others.txn) h.unchanged;
+  all = h.all;
+  no_room = h.no_room;
+}
+
+claims_kept : (p : Plan) (w : World) (l : Lock) (v : View) (w' : World) (l' : Lock) (v' : View) (c : ℕ) (s : Session) → Beside s.txn c w l v w' l' v' → w.count ≤ w'.count → Claims w l v s p → Claims w' l' v' s p
+claims_kept plan.Nothing w l v w' l' v' c s b more h = h
+claims_kept (plan.Command d) w l v w' l' v' c s b more h = h
+claims_kept (plan.Select scan) w l v w' l' v' c s b more h = (selects_kept w l v w' l' v' c s scan b more h.0, h.1, λ q. promised_kept l l' s (Table scan.number) TS b.locks (h.2 q))
+claims_kept (plan.Insert fill) w l v w' l' v' c s b more h = (waiting_kept w l v w' l' v' c s fill b more h.0, λ q. promised_kept l l' s (Table fill.number) TX b.locks (h.1 q))
+claims_kept (plan.Refuse why) w l v w' l' v' c s b more h = h
+
+works_kept : (p : Plan) (w : World) (l : Lock) (v : View) (w' : World) (l' : Lock) (v' : View) (c : ℕ) (s : Session) → Beside s.txn c w l v w' l' v' → w.count ≤ w'.count → Works w l v c s p → Works w' l' v' c s p
 works_kept plan.Nothing w l v w' l' v' c s b more h = h
 works_kept (plan.Command d) w l v w' l' v' c s b more h = commands_kept w l v w' l' v' c s d b more h
-works_kept (plan.Select scan) w l v w' l' v' c s b more h = h
-works_kept (plan.Insert fill) w l v w' l' v' c s b more h = h
+works_kept (plan.Select scan) w l v w' l' v' c s b more h = scans_kept w l v w' l' v' c s scan b more h
+works_kept (plan.Insert fill) w l v w' l' v' c s b more h = fills_kept w l v w' l' v' c s fill b more h
 works_kept (plan.Refuse why) w l v w' l' v' c s b more h = h
 
 refusing_kept : (p : Plan) (w : World) (l : Lock) (v : View) (w' : World) (l' : Lock) (v' : View) (c : ℕ) (s : Session) → Beside s.txn c w l v w' l' v' → RefusesFor w l v s p → RefusesFor w' l' v' s p
@@ -136,7 +247,7 @@ phase_kept Idle w l v w' l' v' last last' c s shared k b more on h = (h.0, ap (�
 phase_kept Resting w l v w' l' v' last last' c s shared k b more on h = (busy_kept w l v w' l' v' last last' c s shared k (b h.0) more h.0, h.1, h.2)
 phase_kept Asking w l v w' l' v' last last' c s shared k b more on h = (busy_kept w l v w' l' v' last last' c s shared k (b h.0) more h.0, h.1, asks_kept w l v w' l' v' c s (b h.0) on h.2)
 phase_kept Preparing w l v w' l' v' last last' c s shared k b more on h = (busy_kept w l v w' l' v' last last' c s shared k (b h.0) more h.0, h.1, h.2, prepares_kept w l v w' l' v' c s (b h.0) on h.3)
-phase_kept Claiming w l v w' l' v' last last' c s shared k b more on h = (busy_kept w l v w' l' v' last last' c s shared k (b h.0) more h.0, h.1, h.2)
+phase_kept Claiming w l v w' l' v' last last' c s shared k b more on h = (busy_kept w l v w' l' v' last last' c s shared k (b h.0) more h.0, h.1, claims_kept s.plan w l v w' l' v' c s (b h.0) on h.2)
 phase_kept Working w l v w' l' v' last last' c s shared k b more on h = (busy_kept w l v w' l' v' last last' c s shared k (b h.0) more h.0, h.1, h.2, works_kept s.plan w l v w' l' v' c s (b h.0) on h.3)
 phase_kept Refusing w l v w' l' v' last last' c s shared k b more on h = (busy_kept w l v w' l' v' last last' c s shared k (b h.0) more h.0, h.1, h.2, refusing_kept s.plan w l v w' l' v' c s (b h.0) h.3)
 phase_kept Committing w l v w' l' v' last last' c s shared k b more on h = (busy_kept w l v w' l' v' last last' c s shared k (b h.0) more h.0, h.1, h.2)

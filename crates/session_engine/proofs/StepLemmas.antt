@@ -1,5 +1,5 @@
 -- What each step of a connection owes, from the part of the connection itself. r is the session before.
-use Rattle.std.proofs.Common.{◌≡◌, ◌≢◌, ℕ, ◌+◌, ◌<◌, ◌≤◌, List, [], ◌∷◌, ◌++◌, length, map, set, get_or, reverse, Bool, true, false, refl, sym, ◌∙◌, ap, subst, arith, inl, None, Vec, Global}
+use Rattle.std.proofs.Common.{◌≡◌, ◌≢◌, ℕ, zero, suc, ◌+◌, ◌<◌, ◌≤◌, List, [], ◌∷◌, ◌++◌, length, map, set, get_or, reverse, Bool, true, false, refl, sym, ◌∙◌, ap, subst, arith, inl, None, Vec, Global, vec_len, vec_capacity}
 use Rattle.std.specs.Prelude.{◌⊎◌, All}
 use Rattle.std.proofs.lemmas.List.{get_or_default}
 use Rattle.std.proofs.lemmas.Bool.{both_ways, eq-eqb}
@@ -13,6 +13,11 @@ use Rattle.store_api.specs.declared.slot.Item.{Item}
 use Rattle.store_api.specs.declared.slot.Item.TheVariants.{Changed, Created, Discarded}
 use Rattle.std.specs.Prelude.{OnOk, IfErr, Result, Ok, Err}
 use Rattle.dby_types.specs.declared.number.Damage.{Damage}
+use Rattle.dby_types.specs.declared.state.SqlState.{SqlState}
+use Rattle.lock_manager.specs.declared.table.LockTable.{LockTable}
+use Rattle.lock_manager.specs.Table.{lock}
+use Rattle.journal_model.specs.declared.journal.Entry.{Entry}
+use Rattle.session_model.specs.declared.journal.Locked.{Locked}
 use Rattle.store_api.specs.declared.answers.StoreAnswer.{StoreAnswer}
 use Rattle.store_api.specs.declared.answers.StoreAnswer.TheVariants.{Failed, Damaged, Full, Memory as NoMemory}
 use Rattle.store_api.specs.Frames.{Stores, HasCause, never_full}
@@ -26,10 +31,12 @@ use Rattle.session_model.proofs.EntryLemmas.{committed_others, committed_kept}
 use Rattle.session_engine.specs.declared.session.Phase.{Phase}
 use Rattle.session_engine.specs.declared.session.Phase.TheVariants.{Committing, Forcing, Acknowledging}
 use Rattle.session_engine.specs.declared.session.Session.{Session}
-use Rattle.session_engine.specs.Dictionary.{IsDictionary}
-use Rattle.session_engine.specs.State.{State, Holds, SessionHolds, Busy, HaveSlots, AreUsers, Mirrors, Reflects, PhaseHolds, IsStage, WaitsNot, world_of, txn_of}
+use Rattle.session_engine.specs.Dictionary.{IsDictionary, Named}
+use Rattle.session_engine.specs.Engine.{EngineHolds, state}
+use Rattle.session_engine.specs.State.{State, Holds, SessionHolds, Busy, HaveSlots, AreUsers, Mirrors, Reflects, PhaseHolds, IsStage, WaitsNot, AreDescribed, world_of, txn_of}
 use Rattle.session_engine.proofs.QueueLemmas.{none_asks}
-use Rattle.session_engine.proofs.MoveLemmas.{Stepping, StoreMoves, store_holds, lock_same, entered, moved}
+use Rattle.session_engine.proofs.MoveLemmas.{Stepping, StoreMoves, store_holds, lock_same, entered, moved, described_same}
+use Rattle.session_engine.proofs.RoomLemmas.{room_after}
 use Rattle.session_engine.proofs.StableLemmas.{session_kept}
 
 -- THE SESSION ITSELF
@@ -47,22 +54,22 @@ asks_nothing t l h = λ i d lt e. both_ways _ (none_asks t (queue l) h i d lt) (
 pub apart_of : (w : World) (l : Lock) (v : View) (last c a : ℕ) → (w.txns a).conn ≡ c → (i : ℕ) (s : Session) → i ≢ c → Busy w l v last i s → txn_of s ≢ a
 apart_of w l v last c a own i s ne b e = ne (sym b.conn ∙ ap (λ t. (w.txns t).conn) e ∙ own)
 
--- A STEP of a transaction that is open
-pub stepping : (st : State) (last : ℕ) (w' : World) (k : ℕ) (r s' : Session) (v' : View) → k < length st.ss → r ≡ get_or st.ss k r
-    → Busy (world_of st.es) st.lock st.view last (k + 1) r → WaitsNot r
+-- A STEP of a transaction that is open, and whose request, if it had one, doesn't wait
+pub stepping_idle : (st : State) (last : ℕ) (w' : World) (k : ℕ) (r s' : Session) (v' : View) → k < length st.ss → r ≡ get_or st.ss k r
+    → Busy (world_of st.es) st.lock st.view last (k + 1) r → waiting st.lock r.txn ≡ None
     → ((t : ℕ) → t ≢ txn_of r → Others t (world_of st.es) (locks_of st.lock.grants) w' (locks_of st.lock.grants)) → StoreMoves (locks_of st.lock.grants) (txn_of r) (k + 1) st.view v'
     → ((i : ℕ) → i ≢ k + 1 → w'.conns i ≡ (world_of st.es).conns i) → SessionHolds w' st.lock v' last (k + 1) s'
     → ((txn_of s' ≡ txn_of r) ⊎ (v'.content.changes (txn_of r) ≡ None)) → s'.script ≡ r.script → (world_of st.es).count ≤ w'.count → w'.last ≡ last
     → Each (λ n. n < v'.content.next_container) w'.given → ((table : ℕ) (rid : RowId) → live (v'.content.heaps table rid) ≡ w'.current table rid)
-    → IsDictionary w'.current st.named → Stepping st last w' (txn_of r) k s' v' last
-stepping st last w' k r s' v' lt at busy quiet others store conns own has script more last_is given stored dictionary = record {
+    → IsDictionary w'.current st.named → AreDescribed v' st.named → Stepping st last w' (txn_of r) k s' v' last
+stepping_idle st last w' k r s' v' lt at busy idle others store conns own has script more last_is given stored dictionary described = record {
   within = lt;
   positive = busy.positive;
   others = others;
   store = store;
   conns = conns;
   apart = apart_of (world_of st.es) st.lock st.view last (k + 1) (txn_of r) busy.conn;
-  free = asks_nothing r.txn st.lock (busy.idle quiet);
+  free = asks_nothing r.txn st.lock idle;
   own = own;
   was = λ d. inl (ap txn_of (get_or_is st.ss k r d lt at));
   has = has;
@@ -74,10 +81,21 @@ stepping st last w' k r s' v' lt at busy quiet others store conns own has script
   given = given;
   stored = stored;
   dictionary = dictionary;
+  described = described;
 }
   where
     get_or_is : (ss : List Session) (k : ℕ) (r d : Session) → k < length ss → r ≡ get_or ss k r → get_or ss k d ≡ r
     get_or_is ss k r d lt at = get_or_default ss k d r lt ∙ sym at
+
+-- and that has none
+pub stepping : (st : State) (last : ℕ) (w' : World) (k : ℕ) (r s' : Session) (v' : View) → k < length st.ss → r ≡ get_or st.ss k r
+    → (busy : Busy (world_of st.es) st.lock st.view last (k + 1) r) → WaitsNot r
+    → ((t : ℕ) → t ≢ txn_of r → Others t (world_of st.es) (locks_of st.lock.grants) w' (locks_of st.lock.grants)) → StoreMoves (locks_of st.lock.grants) (txn_of r) (k + 1) st.view v'
+    → ((i : ℕ) → i ≢ k + 1 → w'.conns i ≡ (world_of st.es).conns i) → SessionHolds w' st.lock v' last (k + 1) s'
+    → ((txn_of s' ≡ txn_of r) ⊎ (v'.content.changes (txn_of r) ≡ None)) → s'.script ≡ r.script → (world_of st.es).count ≤ w'.count → w'.last ≡ last
+    → Each (λ n. n < v'.content.next_container) w'.given → ((table : ℕ) (rid : RowId) → live (v'.content.heaps table rid) ≡ w'.current table rid)
+    → IsDictionary w'.current st.named → AreDescribed v' st.named → Stepping st last w' (txn_of r) k s' v' last
+stepping st last w' k r s' v' lt at busy quiet = stepping_idle st last w' k r s' v' lt at busy (busy.idle quiet)
 
 -- THE COMMIT RECORD
 no_discards : (items : List Item) (ms : List Made) (d : Content) → Mirrors items ms → without_discarded items d ≡ d
@@ -141,7 +159,7 @@ appends st last k r made v' lt at is none content actors limit ok =
     (λ i ne. refl) own (inl refl) refl (omega arith) ok.last_is
     (subst (λ (d : Content). Each (λ n. n < d.next_container) w.given) (sym plain) ok.given)
     (λ table rid. ap (λ (d : Content). live (d.heaps table rid)) plain ∙ ok.stored table rid)
-    ok.dictionary) ok
+    ok.dictionary (described_same st.view v' st.named (λ n. ap (λ (d : Content). d.columns n) plain) ok.described)) ok
 
 -- WHAT IS STORED behind a call without memory and room of its own, whatever it answers
 pub stored_after : (damaged : Damage → Type 0) (left : Content) (v v' : View) (answer : Result (Unit {0}) StoreAnswer)
@@ -179,6 +197,7 @@ still_store st last v' content actors limit ok = record {
   holders = λ b h. ok.holders b (λ e. h (ap (λ x. x.pages) (actors b) ∙ e));
   few = (let few = ok.few in omega (arith, few, limit));
   dictionary = ok.dictionary;
+  described = described_same st.view v' st.named (λ n. ap (λ (x : Content). x.columns n) content) ok.described;
 }
 
 -- THE COMMIT IS DURABLE
@@ -220,7 +239,7 @@ forced st last k r v' lt at is content actors limit ok =
     })
     (inl refl) refl (omega arith) ok.last_is
     (subst (λ (x : Content). Each (λ n. n < x.next_container) w.given) (sym content) ok.given)
-    (λ table rid. ap (λ (x : Content). live (x.heaps table rid)) content ∙ ok.stored table rid) ok.dictionary) ok
+    (λ table rid. ap (λ (x : Content). live (x.heaps table rid)) content ∙ ok.stored table rid) ok.dictionary (described_same st.view v' st.named (λ n. ap (λ (x : Content). x.columns n) content) ok.described)) ok
 
 -- a session at a place, whatever way it was read
 pub same_session : (ss : List Session) (k : ℕ) (r s : Session) → k < length ss → r ≡ get_or ss k r → s ≡ get_or ss k s → r ≡ s
@@ -231,3 +250,32 @@ refused_content damaged left v v' Failed err = err.1
 refused_content damaged left v v' (Damaged d) err = err.1
 refused_content damaged left v v' (Full s) err = absurd err.0
 refused_content damaged left v v' NoMemory err = absurd err.0
+
+-- a call that left all as it was, whatever it answers
+pub kept_content : (memory : Type 0) (full : SqlState → Type 0) (damaged : Damage → Type 0) (v v' : View) (e : StoreAnswer) → HasCause memory full damaged v.content v v' e → v'.content ≡ v.content
+kept_content memory full damaged v v' Failed err = err.1
+kept_content memory full damaged v v' (Damaged d) err = err.1
+kept_content memory full damaged v v' (Full s) err = err.1.content_same
+kept_content memory full damaged v v' NoMemory err = err.1.content_same
+
+-- the store alone moved, and there is more room
+pub still_engine : {Z : Type 0} (entries entries' : Vec Entry Z) (events events' : Vec Locked Z) (locks : LockTable) (ss : List Session) (v v' : View) (named : List Named) (last owed owed_events k : ℕ) (r : Session)
+    → EngineHolds entries events locks ss v named last owed owed_events → k < length ss → r ≡ get_or ss k r
+    → entries'.items ≡ entries.items → events'.items ≡ events.items → vec_len entries' + owed ≤ vec_capacity entries' → vec_len events' + owed_events + length (queue (lock locks)) ≤ vec_capacity events'
+    → v'.content ≡ v.content → ((b : ℕ) → v'.actors b ≡ v.actors b) → v'.limit ≡ v.limit
+    → EngineHolds entries' events' locks (set ss k r) v' named last owed owed_events
+still_engine entries entries' events events' locks ss v v' named last owed owed_events k r h lt at es ls fit fit' content actors limit =
+    let same : set ss k r ≡ ss = set_same ss k r lt at in
+    record {
+      holds = subst (λ xs. Holds (state entries' events' locks xs v' named) last) (sym same)
+          (subst (λ x. Holds (record { es = x; ls = events'.items; lock = lock locks; ss = ss; view = v'; named = named }) last) (sym es)
+          (subst (λ x. Holds (record { es = entries.items; ls = x; lock = lock locks; ss = ss; view = v'; named = named }) last) (sym ls)
+          (still_store (state entries events locks ss v named) last v' content actors limit h.holds)));
+      room = room_after entries entries' events events' ss (lock locks) (lock locks) owed owed_events owed owed_events k r r h.room lt at refl refl fit fit';
+      woken = h.woken;
+    }
+  where
+    set_same : (ss : List Session) (k : ℕ) (r : Session) → k < length ss → r ≡ get_or ss k r → set ss k r ≡ ss
+    set_same [] k r lt at = absurd (omega arith)
+    set_same (s ∷ ss) zero r lt at = ap (λ x. x ∷ ss) at
+    set_same (s ∷ ss) (suc k) r lt at = ap (λ xs. s ∷ xs) (set_same ss k r (omega arith) at)

@@ -24,7 +24,7 @@ use Rattle.journal_model.proofs.BaseLemmas.{at_same, at_other}
 use Rattle.session_model.specs.declared.order.Order.{Order}
 use Rattle.session_model.specs.declared.order.Order.TheVariants as ordered
 use Rattle.session_model.specs.Orders.{order_of, told_of, Passes, PassesOrder}
-use Rattle.session_model.specs.World.{World, Txn, Conn, Stage, said, denied, pin_of, resting, committing, leaving, running, apply, opening, after_answered, after_refused, wants_log, set_conn, seen, is_untold, is_ended, is_returnable}
+use Rattle.session_model.specs.World.{ends_if, World, Txn, Conn, Stage, said, denied, pin_of, resting, committing, leaving, running, apply, opening, after_answered, after_refused, wants_log, set_conn, seen, is_untold, is_ended, is_returnable}
 use Rattle.session_model.specs.Legal.{view as view_at, AnswerMeets, Owes, HasEvidence, NullInOrder, IsMeant, is_lasting, is_owed}
 use Rattle.session_model.specs.Places.{Relies, locks_of}
 use Rattle.session_model.proofs.BaseLemmas.{count_is}
@@ -35,7 +35,7 @@ use Rattle.session_engine.specs.declared.session.Plan.{Plan}
 use Rattle.session_engine.specs.declared.session.Plan.TheVariants as plan
 use Rattle.session_engine.specs.declared.session.Session.{Session}
 use Rattle.session_engine.specs.Follows.{Follows, level_set, automatic_set}
-use Rattle.session_engine.specs.State.{State, Holds, SessionHolds, Busy, Commands, Refuses, RefusesFor, Works, Stands, Mirrors, Reflects, PhaseHolds, IsStage, IsShown, WaitsNot, IsOpened, HaveSlots, AreUsers, ends_in, opens, world_of, txn_of}
+use Rattle.session_engine.specs.State.{State, Holds, SessionHolds, Busy, Commands, Refuses, RefusesFor, Works, Stands, Mirrors, Reflects, PhaseHolds, IsStage, IsShown, WaitsNot, IsOpened, IsUnchanged, HaveSlots, AreUsers, ends_in, opens, world_of, txn_of}
 use Rattle.session_engine.proofs.MoveLemmas.{store_holds, entered}
 use Rattle.session_engine.proofs.StepLemmas.{own_session, phase_at, stepping}
 use Rattle.session_engine.proofs.EndLemmas.{conn_at, at_conn, mirrors_nil, refuses_pages}
@@ -163,7 +163,7 @@ answers st last k r s' answer joined from to lt at is follows level automatic tx
     (answered_kept r.txn answer joined from to w l stage rests ok.shared)
     (stepping st last w' k r s' st.view lt at busy p.1 (quiet_others a w l w' refl refl (λ t ne. at_other w.txns a _ t ne))
     (store_holds l a (k + 1) st.view st.view refl (λ b ne. refl) refl)
-    (λ i ne. at_other w.conns (w.txns a).conn _ i (λ e. ne (e ∙ busy.conn))) own (inl same) script (omega arith) ok.last_is ok.given ok.stored ok.dictionary) ok
+    (λ i ne. at_other w.conns (w.txns a).conn _ i (λ e. ne (e ∙ busy.conn))) own (inl same) script (omega arith) ok.last_is ok.given ok.stored ok.dictionary ok.described) ok
 
 -- A COMMAND'S ANSWER
 pub command_meets : (st : State) (last k : ℕ) (r : Session) (c : Command) (place : ℕ) → place ≡ length st.es → Commands (world_of st.es) st.lock st.view r c
@@ -262,29 +262,28 @@ stands_none mark items x h len = go h.own_items h.own h.items_are h.changes_are 
     go [] own e c m = c ∙ ap (λ y. y ++ x.begun) (mirrors_nil own m)
     go (i ∷ oi) own e c m = (let more = ap length e in let base = h.length_is in let sum = length-append oi h.base in absurd (omega (arith, more, base, len, sum)))
 
-pub refuses : (st : State) (last k : ℕ) (r s' : Session) (why : Refusal)
-    → k < length st.ss → r ≡ get_or st.ss k r → r.phase ≡ Refusing → r.plan ≡ plan.Refuse why → length (changes_in (st.view.content.changes (txn_of r))) ≡ r.mark
+-- whatever the connection was doing
+pub denies : (st : State) (last k : ℕ) (r s' : Session) (why : Refusal)
+    → k < length st.ss → r ≡ get_or st.ss k r → Busy (world_of st.es) st.lock st.view last (k + 1) r → WaitsNot r → is_untold ((world_of st.es).txns (txn_of r)).stage ≡ true
+    → ((world_of st.es).txns (txn_of r)).first ≡ r.first → IsUnchanged (world_of st.es) r → IsShown (world_of st.es) st.lock r why
     → Follows s'.phase (after_refused why r.automatic r.first)
-    → s'.level ≡ r.level → s'.automatic ≡ r.automatic
-    → s'.txn ≡ r.txn → s'.script ≡ r.script → s'.spans ≡ r.spans → s'.begun ≡ r.begun → s'.closed ≡ r.closed → s'.opened ≡ r.opened → s'.queued ≡ r.queued → s'.made.items ≡ r.made.items
+    → s'.level ≡ r.level → s'.automatic ≡ r.automatic → s'.txn ≡ r.txn → s'.script ≡ r.script → s'.spans ≡ r.spans → s'.begun ≡ r.begun → (s'.closed ≡ false → ((world_of st.es).conns (k + 1)).closed ≡ false)
+    → s'.opened ≡ r.opened → s'.queued ≡ r.queued → s'.made.items ≡ r.made.items
+    → ((w' : World) → Follows s'.phase (w'.txns (txn_of s')).stage → Busy w' st.lock st.view last (k + 1) s' → PhaseHolds s'.phase w' st.lock st.view last (k + 1) s')
     → Holds st last
     → Holds (record { es = st.es ++ entry.Refused r.txn why ∷ []; ls = st.ls; lock = st.lock; ss = set st.ss k s'; view = st.view; named = st.named }) last
-refuses st last k r s' why lt at is planned none_left follows level automatic txn script spans begun closed opened queued made ok =
+denies st last k r s' why lt at busy quiet untold first unchanged shown follows level automatic txn script spans begun closed opened queued made finish ok =
     let w = world_of st.es in
     let l = locks_of st.lock.grants in
     let a = txn_of r in
     let e = entry.Refused r.txn why in
     let w' = apply w e in
     let mine = own_session st last k r lt at ok in
-    let p = phase_at Refusing w st.lock st.view last (k + 1) r is mine in
-    let busy = p.0 in
-    let h : Refuses w st.lock st.view r why = subst (RefusesFor w st.lock st.view r) planned p.3 in
-    let untold : is_untold (w.txns a).stage ≡ true = subst (λ q. IsStage q (w.txns a).stage) is busy.stage in
     let open_still : is_ended (w.txns a).stage ≡ false = untold_open (w.txns a).stage untold in
     let same : txn_of s' ≡ a = ap (λ t. t.0) txn in
     let x : w'.txns a ≡ _ = at_same w.txns a _ in
     let automatic_is : (w.conns (w.txns a).conn).automatic ≡ r.automatic = at_conn w a (k + 1) busy.conn (λ y. y.automatic) ∙ mine.automatic in
-    let follows' : Follows s'.phase (w'.txns a).stage = subst (Follows s'.phase) (sym (ap (λ (y : Txn). y.stage) x ∙ ap (λ b. after_refused why b (w.txns a).first) automatic_is ∙ ap (after_refused why r.automatic) h.first)) follows in
+    let follows' : Follows s'.phase (w'.txns a).stage = subst (Follows s'.phase) (sym (ap (λ (y : Txn). y.stage) x ∙ ap (λ b. after_refused why b (w.txns a).first) automatic_is ∙ ap (after_refused why r.automatic) first)) follows in
     let busy' : Busy w' st.lock st.view last (k + 1) s' = busy_at w' st.lock st.view last (k + 1) s' r.txn txn (record {
       stage = follows_stage s'.phase (w'.txns a).stage follows';
       conn = ap (λ (y : Txn). y.conn) x ∙ busy.conn;
@@ -295,22 +294,40 @@ refuses st last k r s' why lt at is planned none_left follows level automatic tx
       reflects = subst (λ b. Reflects b (st.view.content.changes a) (w'.txns a).changes) (sym opened) (subst (λ (y : Txn). Reflects r.opened (st.view.content.changes a) y.changes) (sym x) busy.reflects);
       slots = subst (λ (y : Txn). HaveSlots st.view y.changes) (sym x) busy.slots;
       users = subst (λ (y : Txn). AreUsers y.changes) (sym x) busy.users;
-      idle = λ q. busy.idle p.1;
+      idle = λ q. busy.idle quiet;
     }) in
     let own : SessionHolds w' st.lock st.view last (k + 1) s' = record {
       begun = mine.begun ∙ sym begun;
       level = mine.level ∙ sym level;
       automatic = mine.automatic ∙ sym automatic;
-      closed = λ live. mine.closed (sym closed ∙ live);
+      closed = closed;
       spans = spans ∙ mine.spans ∙ ap spans_of (sym script);
-      phase = follows_phase s'.phase w' st.lock st.view last (k + 1) s' (subst (λ t. Follows s'.phase (w'.txns t).stage) (sym same) follows') busy' (queued ∙ p.1) (opened ∙ p.2);
+      phase = finish w' (subst (λ t. Follows s'.phase (w'.txns t).stage) (sym same) follows') busy';
     } in
     entered st last e a k s' st.view last
-    (record { session = untold; undo = stands_none r.mark (changes_in (st.view.content.changes a)) (w.txns a) h.stands none_left; change = tt; refusal = shown_evidence w st.lock r why h.shown }) tt
-    (refused_kept r.txn why w l open_still (shown_rests w st.lock r why h.shown) ok.shared)
-    (stepping st last w' k r s' st.view lt at busy p.1 (quiet_others a w l w' refl refl (λ t ne. at_other w.txns a _ t ne))
+    (record { session = untold; undo = unchanged; change = tt; refusal = shown_evidence w st.lock r why shown }) tt
+    (refused_kept r.txn why w l open_still (shown_rests w st.lock r why shown) ok.shared)
+    (stepping st last w' k r s' st.view lt at busy quiet (quiet_others a w l w' refl refl (λ t ne. at_other w.txns a _ t ne))
     (store_holds l a (k + 1) st.view st.view refl (λ b ne. refl) refl)
-    (λ i ne. refl) own (inl same) script (omega arith) ok.last_is ok.given ok.stored ok.dictionary) ok
+    (λ i ne. refl) own (inl same) script (omega arith) ok.last_is ok.given ok.stored ok.dictionary ok.described) ok
+
+pub refuses : (st : State) (last k : ℕ) (r s' : Session) (why : Refusal)
+    → k < length st.ss → r ≡ get_or st.ss k r → r.phase ≡ Refusing → r.plan ≡ plan.Refuse why → length (changes_in (st.view.content.changes (txn_of r))) ≡ r.mark
+    → Follows s'.phase (after_refused why r.automatic r.first)
+    → s'.level ≡ r.level → s'.automatic ≡ r.automatic
+    → s'.txn ≡ r.txn → s'.script ≡ r.script → s'.spans ≡ r.spans → s'.begun ≡ r.begun → s'.closed ≡ r.closed → s'.opened ≡ r.opened → s'.queued ≡ r.queued → s'.made.items ≡ r.made.items
+    → Holds st last
+    → Holds (record { es = st.es ++ entry.Refused r.txn why ∷ []; ls = st.ls; lock = st.lock; ss = set st.ss k s'; view = st.view; named = st.named }) last
+refuses st last k r s' why lt at is planned none_left follows level automatic txn script spans begun closed opened queued made ok =
+    let w = world_of st.es in
+    let a = txn_of r in
+    let mine = own_session st last k r lt at ok in
+    let p = phase_at Refusing w st.lock st.view last (k + 1) r is mine in
+    let h : Refuses w st.lock st.view r why = subst (RefusesFor w st.lock st.view r) planned p.3 in
+    let untold : is_untold (w.txns a).stage ≡ true = subst (λ q. IsStage q (w.txns a).stage) is p.0.stage in
+    denies st last k r s' why lt at p.0 p.1 untold h.first (stands_none r.mark (changes_in (st.view.content.changes a)) (w.txns a) h.stands none_left) h.shown follows
+    level automatic txn script spans begun (λ live. mine.closed (sym closed ∙ live)) opened queued made
+    (λ w' now busy'. follows_phase s'.phase w' st.lock st.view last (k + 1) s' now busy' (queued ∙ p.1) (opened ∙ p.2)) ok
 
 -- a connection that refuses has a refusal, whose own items stand behind those of before it
 pub record RefusesWith (w : World) (l : Lock) (v : View) (r : Session) : Type 0 where
@@ -355,8 +372,8 @@ command_automatic command.Rollback k = refl
 command_automatic (command.Autocommit on) k = refl
 command_automatic (command.SetIsolation level) k = refl
 
-command_in : (w : World) (l : Lock) (v : View) (r : Session) (c : Command) (p : Plan) → p ≡ plan.Command c → Works w l v r p → Commands w l v r c
-command_in w l v r c p e h = subst (Works w l v r) e h
+command_in : (w : World) (l : Lock) (v : View) (r : Session) (c : Command) (p : Plan) → p ≡ plan.Command c → (k : ℕ) → Works w l v k r p → Commands w l v r c
+command_in w l v r c p e k h = subst (Works w l v k r) e h
 
 pub commands : (st : State) (last k place : ℕ) (r : Session) (c : Command) (phase : Phase) → k < length st.ss → r ≡ get_or st.ss k r → r.phase ≡ Working → r.plan ≡ plan.Command c → place ≡ length st.es
     → Follows phase (after_answered (Some (ordered.Command c)) r.automatic r.first) → Holds st last
@@ -372,7 +389,7 @@ commands st last k place r c phase lt at is planned here follows ok =
     let w = world_of st.es in
     let mine = own_session st last k r lt at ok in
     let p = phase_at Working w st.lock st.view last (k + 1) r is mine in
-    let h : Commands w st.lock st.view r c = command_in w st.lock st.view r c r.plan planned p.3 in
+    let h : Commands w st.lock st.view r c = command_in w st.lock st.view r c r.plan planned (k + 1) p.3 in
     answers st last k r (record r { phase = phase; level = level_set c r.level; automatic = automatic_set c r.automatic; plan = plan.Nothing }) (told_of c) [] place place lt at is
     (subst (λ o. Follows phase (after_answered o r.automatic (w.txns (txn_of r)).first)) (sym h.order) (subst (λ b. Follows phase (after_answered (Some (ordered.Command c)) r.automatic b)) (sym h.runs.first) follows))
     (ap (level_set c) (sym mine.level) ∙ sym (ap (λ o. (set_conn o (w.conns (k + 1))).level) h.order ∙ command_level c (w.conns (k + 1))))
@@ -383,7 +400,7 @@ pub not_done : IsTrue false → ⊥
 not_done h = both_ways false refl h
 
 -- A REFUSAL, whole, behind a look at the store in which nothing of the statement was left
-set_twice : (ss : List Session) (k : ℕ) (a b : Session) → set (set ss k a) k b ≡ set ss k b
+pub set_twice : (ss : List Session) (k : ℕ) (a b : Session) → set (set ss k a) k b ≡ set ss k b
 set_twice [] k a b = refl
 set_twice (s ∷ ss) zero a b = refl
 set_twice (s ∷ ss) (suc k) a b = ap (λ xs. s ∷ xs) (set_twice ss k a b)
@@ -453,3 +470,28 @@ told_at_most Committing x h = omega arith
 told_at_most Forcing x h = absurd h
 told_at_most Acknowledging x h = absurd h
 told_at_most Leaving x h = omega arith
+
+-- what it may still have to put once its answer is told
+pub done_ends : (b : Bool) (p : Phase) → Follows p (ends_if b) → (1 ≤ ends_in p) × (ends_in p ≤ 2) × (opens p ≡ 1)
+done_ends true Committing h = (omega arith, omega arith, refl)
+done_ends true Idle h = absurd h
+done_ends true Resting h = (omega arith, omega arith, refl)
+done_ends true Asking h = absurd h
+done_ends true Preparing h = absurd h
+done_ends true Claiming h = absurd h
+done_ends true Working h = absurd h
+done_ends true Refusing h = absurd h
+done_ends true Forcing h = absurd h
+done_ends true Acknowledging h = absurd h
+done_ends true Leaving h = (omega arith, omega arith, refl)
+done_ends false Committing h = (omega arith, omega arith, refl)
+done_ends false Idle h = absurd h
+done_ends false Resting h = (omega arith, omega arith, refl)
+done_ends false Asking h = absurd h
+done_ends false Preparing h = absurd h
+done_ends false Claiming h = absurd h
+done_ends false Working h = absurd h
+done_ends false Refusing h = absurd h
+done_ends false Forcing h = absurd h
+done_ends false Acknowledging h = absurd h
+done_ends false Leaving h = (omega arith, omega arith, refl)

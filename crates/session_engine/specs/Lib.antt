@@ -1,7 +1,11 @@
 pub mod Dictionary
+pub mod Scanning
 pub mod State
 pub mod Noted
 pub mod Release
 pub mod Follows
 pub mod Engine
 pub mod Opening
+pub mod Beginning
+pub mod Asking
+pub mod Binding

@@ -6,7 +6,8 @@ use Rattle.lock_modes.specs.declared.entry.Request.{Request}
 use Rattle.lock_modes.specs.declared.event.LockEvent.{LockEvent}
 use Rattle.lock_modes.specs.declared.mode.Mode.{Mode}
 use Rattle.lock_modes.specs.declared.name.LockName.{LockName}
-use Rattle.lock_modes.specs.declared.name.LockName.TheVariants.{Dictionary}
+use Rattle.lock_modes.specs.declared.mode.Mode.TheVariants.{TS, TX}
+use Rattle.lock_modes.specs.declared.name.LockName.TheVariants.{Dictionary, Table}
 use Rattle.lock_modes.specs.Apart.{IsApart}
 use Rattle.lock_modes.specs.Lock.{Lock, lock_of, queue, request}
 use Rattle.lock_modes.specs.Modes.{has_mode}
@@ -31,7 +32,14 @@ use Rattle.session_engine.specs.declared.session.Plan.TheVariants as plan
 use Rattle.sql_commands.specs.declared.command.Command.{Command}
 use Rattle.session_model.specs.declared.order.Order.TheVariants as ordered
 use Rattle.journal_model.specs.declared.journal.Refusal.{Refusal}
-use Rattle.journal_model.specs.Meaning.{is_long}
+use Rattle.journal_model.specs.Meaning.{is_long, Names, Suits, some_null}
+use Rattle.journal_model.specs.Levels.{row_of}
+use Rattle.journal_model.specs.Legal.{written, row_put}
+use Rattle.dby_types.specs.declared.value.Value.{Value}
+use Rattle.sql_forms.specs.declared.form.Form.TheVariants.{Select, Insert}
+use Rattle.session_engine.specs.declared.session.Scan.{Scan}
+use Rattle.session_engine.specs.declared.session.Fill.{Fill}
+use Rattle.session_engine.specs.Scanning.{IsScanned, IsUnread, IsWhere}
 use Rattle.session_engine.specs.Dictionary.{Named, Among, IsDictionary}
 
 -- ALL THAT THE ENGINE KEEPS: entries, lock events, the lock table's state, its connections, what its store is seen with, its dictionary
@@ -170,10 +178,70 @@ pub record Refuses (w : World) (l : Lock) (v : View) (s : Session) (why : Refusa
   pub shown : IsShown w l s why
   pub stands : Stands s.mark (changes_in (v.content.changes (txn_of s))) (w.txns (txn_of s))
 
+-- A QUERY, bound: nothing is changed by it
+pub record Selects (w : World) (l : Lock) (v : View) (s : Session) (scan : Scan) : Type 0 where
+  pub runs : Runs w s
+  pub marked : IsMarked v s
+  pub unchanged : IsUnchanged w s
+  pub name : List ℕ
+  pub order : order_of (w.txns (txn_of s)).text ≡ Some (ordered.Form (Select name))
+  pub catalog : ReadsCatalog (locks_of l.grants) (txn_of s)
+  pub target : Names (seen w (txn_of s)) name
+  pub number : target.def.number ≡ scan.number
+  pub user : is_catalog scan.number ≡ false
+  pub names : scan.names ≡ map (λ c. c.name) target.def.columns
+
+-- and reads its table, which it has to itself and other readers
+pub record Scans (w : World) (l : Lock) (v : View) (s : Session) (scan : Scan) : Type 0 where
+  pub selects : Selects w l v s scan
+  pub reads : (rid : RowId) → (locks_of l.grants).reads (txn_of s) scan.number rid ≡ true
+  pub read : IsScanned (w.current scan.number) scan.after scan.tuples.items
+  pub rows : scan.rows.items ≡ map row_of scan.tuples.items
+  pub at : IsWhere v.content.heaps scan.number scan.after scan.at
+
+-- AN INSERT, bound
+pub record Inserts (w : World) (l : Lock) (s : Session) (fill : Fill) : Type 0 where
+  pub runs : Runs w s
+  pub name : List ℕ
+  pub tuples : List (List Value)
+  pub order : order_of (w.txns (txn_of s)).text ≡ Some (ordered.Form (Insert name tuples))
+  pub catalog : ReadsCatalog (locks_of l.grants) (txn_of s)
+  pub suits : Suits (seen w (txn_of s)) name tuples
+  pub whole : some_null suits.target.def.columns tuples ≡ false
+  pub number : suits.target.def.number ≡ fill.number
+  pub user : is_catalog fill.number ≡ false
+  pub count : fill.count ≡ length tuples
+
+-- and puts its rows, one after another, into its table, which it has to itself
+pub record Fills (w : World) (l : Lock) (v : View) (c : ℕ) (s : Session) (fill : Fill) : Type 0 where
+  pub inserts : Inserts w l s fill
+  pub writes : (rid : RowId) → (locks_of l.grants).writes (txn_of s) fill.number rid ≡ true
+  pub stands : Stands s.mark (changes_in (v.content.changes (txn_of s))) (w.txns (txn_of s))
+  pub done : List (List Value)
+  pub rest : done ++ reverse fill.rows.items ≡ inserts.tuples
+  pub puts : written stands.own ≡ map (row_put fill.number) done
+  pub room : fill.has_room ≡ true → (v.actors c).room ≡ Some fill.number
+
+-- it has put no row
+pub record Waiting (w : World) (l : Lock) (v : View) (s : Session) (fill : Fill) : Type 0 where
+  pub inserts : Inserts w l s fill
+  pub marked : IsMarked v s
+  pub unchanged : IsUnchanged w s
+  pub all : reverse fill.rows.items ≡ inserts.tuples
+  pub no_room : fill.has_room ≡ false
+
+-- it asks for the table that it was bound to
+abbrev pub Claims : World → Lock → View → Session → Plan → Type 0
+Claims w l v s (plan.Select scan) = Selects w l v s scan × IsUnread scan × (s.queued ≡ true → IsPromised l s (Table scan.number) TS)
+Claims w l v s (plan.Insert fill) = Waiting w l v s fill × (s.queued ≡ true → IsPromised l s (Table fill.number) TX)
+Claims w l v s _ = ⊥
+
 -- what it was bound to do
-abbrev pub Works : World → Lock → View → Session → Plan → Type 0
-Works w l v s (plan.Command c) = Commands w l v s c
-Works w l v s _ = ⊥
+abbrev pub Works : World → Lock → View → ℕ → Session → Plan → Type 0
+Works w l v c s (plan.Command d) = Commands w l v s d
+Works w l v c s (plan.Select scan) = Scans w l v s scan
+Works w l v c s (plan.Insert fill) = Fills w l v c s fill
+Works w l v c s _ = ⊥
 
 abbrev pub RefusesFor : World → Lock → View → Session → Plan → Type 0
 RefusesFor w l v s (plan.Refuse why) = Refuses w l v s why
@@ -191,8 +259,8 @@ PhaseHolds Idle w l v last c s = WaitsNot s × ((w.conns c).txn ≡ None) × (tx
 PhaseHolds Resting w l v last c s = Busy w l v last c s × WaitsNot s × IsOpened s
 PhaseHolds Asking w l v last c s = Busy w l v last c s × IsOpened s × Asks w l v s
 PhaseHolds Preparing w l v last c s = Busy w l v last c s × WaitsNot s × IsOpened s × Prepares w l v s
-PhaseHolds Claiming w l v last c s = Busy w l v last c s × WaitsNot s × IsOpened s
-PhaseHolds Working w l v last c s = Busy w l v last c s × WaitsNot s × IsOpened s × Works w l v s s.plan
+PhaseHolds Claiming w l v last c s = Busy w l v last c s × IsOpened s × Claims w l v s s.plan
+PhaseHolds Working w l v last c s = Busy w l v last c s × WaitsNot s × IsOpened s × Works w l v c s s.plan
 PhaseHolds Refusing w l v last c s = Busy w l v last c s × WaitsNot s × IsOpened s × RefusesFor w l v s s.plan
 PhaseHolds Committing w l v last c s = Busy w l v last c s × WaitsNot s × IsOpened s
 PhaseHolds Forcing w l v last c s = Busy w l v last c s × WaitsNot s × (s.opened ≡ false)
@@ -234,6 +302,10 @@ abbrev pub times_in : TxnNo → List Request → ℕ
 times_in t [] = 0
 times_in t (r ∷ rs) = if same_txn r.txn t then times_in t rs + 1 else times_in t rs
 
+-- the store reads and writes the tables of the dictionary by their columns
+abbrev pub AreDescribed : View → List Named → Type 0
+AreDescribed v named = (e : Named) → Among e named → v.content.columns e.1.number ≡ Some e.1.columns
+
 -- THE INVARIANT
 pub record Holds (st : State) (last : ℕ) : Type 0 where
   pub legal : IsLegal no_tables (scripts_of st.ss) st.es st.ls
@@ -252,6 +324,7 @@ pub record Holds (st : State) (last : ℕ) : Type 0 where
   pub holders : (b : ℕ) → (st.view.actors b).pages ≢ 0 → (1 ≤ b) × (b ≤ length st.ss)
   pub few : length st.ss < st.view.limit
   pub dictionary : IsDictionary (world_of st.es).current st.named
+  pub described : AreDescribed st.view st.named
 
 -- ROOM. How many entries a connection may still have to put, whatever happens: its changes taken back, and its statement's and its transaction's end
 abbrev pub ends_in : Phase → ℕ

@@ -77,7 +77,7 @@ pub(crate) fn put<T: Drop>(items: &mut Vec<T>, item: T)
 }
 
 /// The actor that a connection is for the store: the first one is 1.
-fn actor_of(c: usize) -> Actor
+pub(crate) fn actor_of(c: usize) -> Actor
     requires { c + 1 < 2 ^ 32 }
     ensures { result ≡ c + 1 }
 {
@@ -135,6 +135,26 @@ fn release(locks: &mut LockTable, events: &mut Vec<Locked>, place: u64, txn: Txn
     note_grants(locks, events, place);
 }
 
+/// A statement was told in this step, unless the step stopped.
+fn tells(step: Step, told: bool) -> Step {
+    match step {
+        Step::Went(event) => if told {
+            Step::Answered
+        } else {
+            Step::Went(event)
+        },
+        other => other,
+    }
+}
+
+/// A statement has its answer or its refusal; it is told now where its transaction stays open, else at its end.
+pub(crate) fn finished(phase: Phase) -> Step {
+    match phase {
+        Phase::Resting => Step::Answered,
+        _ => Step::Went(Event::Finish),
+    }
+}
+
 impl<S: RowStore + Drop> Engine<S> {
     /// Over a store without rows: a connection for each script, none of which has begun a statement.
     pub fn open(
@@ -173,7 +193,7 @@ impl<S: RowStore> Engine<S> {
     }
 
     /// Keeps the store's first failure, and answers it; where there is none, the step went.
-    fn note(&mut self, answer: Result<(), StoreAnswer>, event: Event) -> Step {
+    pub(crate) fn note(&mut self, answer: Result<(), StoreAnswer>, event: Event) -> Step {
         match answer {
             Err(StoreAnswer::Failed) => {
                 let faults = self.store.faults();
@@ -181,6 +201,14 @@ impl<S: RowStore> Engine<S> {
             }
             Err(StoreAnswer::Damaged(damage)) => self.stop_for(Stop::Damage(damage)),
             _ => Step::Went(event),
+        }
+    }
+
+    /// The same of a call that may want memory; there is nothing to keep of that.
+    pub(crate) fn note_refused(&mut self, answer: StoreAnswer) -> Step {
+        match answer {
+            StoreAnswer::Memory => Step::Memory,
+            other => self.note(Err(other), Event::Begin),
         }
     }
 
@@ -243,7 +271,7 @@ impl<S: RowStore> Engine<S> {
             self.entries.len() as u64,
             txn,
         );
-        Step::Went(Event::Acknowledge)
+        Step::Answered
     }
 
     /// A change of a transaction that leaves is taken back; where none is left, the transaction ends.
@@ -279,10 +307,11 @@ impl<S: RowStore> Engine<S> {
                 put(&mut self.entries, Entry::RolledBack(txn));
                 self.owed -= session.made.len() + 1;
                 self.owed_events -= 1;
+                let told = !session.closed;
                 idle(session, session.closed);
                 let place = self.entries.len() as u64;
                 release(&mut self.locks, &mut self.events, place, txn);
-                self.note(answer, Event::Rollback)
+                tells(self.note(answer, Event::Rollback), told)
             }
             Ok(Undo::UndidContainer) => Step::Went(Event::Undo),
             Ok(Undo::Onward) => Step::Went(Event::Fix),
@@ -291,6 +320,40 @@ impl<S: RowStore> Engine<S> {
                 Step::Blocked(Why::Latch(b))
             }
             Err(answer) => self.note(Err(answer), Event::Undo),
+        }
+    }
+
+    /// A transaction ends that the store never had.
+    pub(crate) fn vanish(&mut self, c: usize) -> Step {
+        if c >= self.sessions.len() {
+            return Step::Ended;
+        }
+        let session = &mut self.sessions[c];
+        let Phase::Leaving = session.phase else {
+            return Step::Ended;
+        };
+        let false = session.opened else {
+            return Step::Ended;
+        };
+        let txn = session.txn;
+        put(&mut self.entries, Entry::RolledBack(txn));
+        self.owed -= session.made.len() + 1;
+        self.owed_events -= 1;
+        let told = !session.closed;
+        idle(session, session.closed);
+        let place = self.entries.len() as u64;
+        release(&mut self.locks, &mut self.events, place, txn);
+        tells(Step::Went(Event::Rollback), told)
+    }
+
+    /// The script has ended in an open transaction: it is to be taken back.
+    pub(crate) fn give_up(&mut self, c: usize) {
+        if c < self.sessions.len() {
+            let session = &mut self.sessions[c];
+            if let Phase::Resting = session.phase {
+                session.phase = Phase::Leaving;
+                session.closed = true;
+            }
         }
     }
 
@@ -326,10 +389,13 @@ impl<S: RowStore> Engine<S> {
                         session.phase = phase_refused(&why, session.automatic, session.first);
                         put(&mut self.entries, Entry::Refused { txn, why });
                         self.owed -= 1;
+                        finished(session.phase)
                     }
-                    other => session.plan = other,
+                    other => {
+                        session.plan = other;
+                        Step::Went(Event::Finish)
+                    }
                 }
-                Step::Went(Event::Finish)
             }
             Ok(Undo::UndidContainer) => Step::Went(Event::Undo),
             Ok(Undo::Onward) => Step::Went(Event::Fix),
@@ -369,6 +435,6 @@ impl<S: RowStore> Engine<S> {
         session.level = level_after(command, session.level);
         session.automatic = automatic_after(command, session.automatic);
         session.plan = Plan::Nothing;
-        Step::Went(Event::Finish)
+        finished(session.phase)
     }
 }

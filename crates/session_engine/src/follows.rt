@@ -1,9 +1,9 @@
 //! What a connection does once its statement is told.
 
-ghost use Rattle.std.specs.Prelude.{◌≡◌, Some};
+ghost use Rattle.std.specs.Prelude.{◌≡◌, ◌≤◌, Some};
 ghost use Rattle.session_model.specs.declared.order.Order.TheVariants as ordered;
 ghost use Rattle.session_model.specs.Orders.{told_of};
-ghost use Rattle.session_model.specs.World.{after_answered, after_refused, wants_log};
+ghost use Rattle.session_model.specs.World.{after_answered, after_refused, ends_if, wants_log};
 ghost use Rattle.session_engine.specs.Follows.{Follows, level_set, automatic_set};
 ghost use Rattle.session_engine.specs.State.{ends_in};
 
@@ -42,6 +42,17 @@ pub(crate) fn phase_answered(command: Command, automatic: bool, first: bool) -> 
     }
 }
 
+/// With autocommit a statement commits.
+pub(crate) fn phase_done(automatic: bool) -> Phase
+    ensures { Follows result (ends_if automatic) }
+{
+    if automatic {
+        Phase::Committing
+    } else {
+        Phase::Resting
+    }
+}
+
 fn wants_log(why: &Refusal) -> bool
     ensures { result ≡ wants_log why.now }
 {
@@ -64,7 +75,8 @@ pub(crate) fn phase_refused(why: &Refusal, automatic: bool, first: bool) -> Phas
 
 /// How many entries a connection may still have to put, besides those of its changes.
 pub(crate) fn ends(phase: Phase) -> usize
-    ensures { result ≡ ends_in phase }
+    ensures exact { result ≡ ends_in phase }
+    ensures few { result ≤ 3 }
 {
     match phase {
         Phase::Idle => 0,

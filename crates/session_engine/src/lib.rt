@@ -1,10 +1,19 @@
-//! The engine of many connections over one row store: what it keeps between any two steps, and its steps from a statement's answer to the end
-//! of its transaction.
+//! The engine of many connections over one row store: what it keeps between any two steps, and the steps that it makes so far.
 #![tactic(auto)]
 
+mod ask;
+mod asking;
+mod begin;
+mod beginning;
+mod binding;
 pub mod dictionary;
 pub mod engine;
+mod fit;
 mod follows;
 mod opening;
+mod prepare;
+mod scan;
+mod scanning;
 pub mod session;
 pub mod step;
+mod text;

@@ -1,14 +1,13 @@
 //! What a connection is doing.
 
-use dby_types::answer::Tuples;
-use dby_types::definition::Columns;
+use dby_types::answer::Component;
 use dby_types::number::{Level, RowId, TxnNo};
-use dby_types::value::{Name, Names, Row, Rows, Txt};
+use dby_types::seq::Seq;
+use dby_types::value::{Names, Row, Txt};
 use journal_model::journal::Refusal;
 use session_model::order::Order;
 use sql_commands::command::Command;
 use sql_lexer::token::Spans;
-use std::collections::VecDeque;
 
 /// Where a connection is between two steps.
 #[derive(Clone, Copy, Debug, PartialEq, Eq)]
@@ -39,13 +38,13 @@ pub enum Phase {
 
 /// Where a query is in its table.
 #[derive(Clone, Copy, Debug, PartialEq, Eq)]
-pub enum At {
-    /// It holds no place.
+pub enum Where {
+    /// It is to look for the first row behind the one that it has passed last.
     Lost,
-    /// It is at the row that it has read last.
-    Read,
-    /// It is at the first row behind that one, or at the end.
-    Next,
+    /// That row is here, live or marked.
+    At(RowId),
+    /// There is none.
+    Ended,
 }
 
 /// A query's rows so far, and the last row id that it has passed.
@@ -53,17 +52,17 @@ pub enum At {
 pub struct Scan {
     pub number: u32,
     pub names: Names,
-    pub at: At,
+    pub at: Where,
     pub after: Option<RowId>,
-    pub tuples: Tuples,
-    pub rows: Rows,
+    pub tuples: Vec<Seq<Component>>,
+    pub rows: Vec<Row>,
 }
 
-/// An INSERT: its table, the rows that are still to be put, and how many there are in all.
+/// An INSERT: its table, the rows that are still to be put, the last one first, and how many there are in all.
 #[derive(Debug, Drop)]
 pub struct Fill {
     pub number: u32,
-    pub rows: VecDeque<Row>,
+    pub rows: Vec<Row>,
     pub count: u64,
     pub has_room: bool,
 }

@@ -17,7 +17,7 @@ pub overflow_sub-self-2 : goal.overflow_sub-self-2
 overflow_sub-self-2 g c =
     let lt : c.args.c < length c.self.inside.sessions.items = omega arith in
     let needs : ends_in c.index_mut-session.result.now.phase ≡ 3 = ap ends_in c.in-Working.is in
-    let three = c.ends.ensures in
+    let three = c.ends.ensures.exact in
     let room = room_for c.self.inside.entries c.self.inside.events c.self.inside.sessions.items (lock c.self.inside.locks) c.self.inside.owed c.self.inside.owed_events c.args.c 3 c.index_mut-session.result.now c.self.invariant.room lt c.index_mut-session.ensures.value (omega (arith, needs)) in
     omega (arith, room.0, three)
 
@@ -31,8 +31,8 @@ invariant_of-self-2 g c =
     let follows = c.phase_answered-session.ensures in
     let left = told_at_most c.phase_answered-session.result _ follows in
     let left_event : opens c.phase_answered-session.result ≡ 1 = told_opens c.phase_answered-session.result _ follows in
-    let three = c.ends.ensures in
-    let then = c.ends-2.ensures in
+    let three = c.ends.ensures.exact in
+    let then = c.ends-2.ensures.exact in
     let put_len = c.put.ensures.len in
     let put_cap = c.put.ensures.capacity in
     let fit = c.self.invariant.room.entries_fit in

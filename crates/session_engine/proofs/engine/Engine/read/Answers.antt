@@ -1,0 +1,108 @@
+use Rattle.std.proofs.Common.{◌<◌, length, ◌∙◌, subst, arith}
+use Rattle.session_engine.specs.Engine.{state}
+use Rattle.session_engine.specs.Scanning.{IsSeen, passed}
+use Rattle.session_engine.specs.declared.session.Plan.TheVariants as plan
+use Rattle.session_engine.proofs.CountLemmas.{may_hold}
+use Rattle.session_engine.proofs.ReadLemmas.{Reading, scan_described, scan_stays, scan_takes, scan_passes, scan_starves, scan_goes, scan_fails, working_owes}
+use Rattle.session_engine.proofs.engine.Engine.read.Goals as goal
+
+pub read_row-requires-clause-described : goal.read_row-requires-clause-described
+read_row-requires-clause-described g c =
+    let lt : c.args.c < length c.self.inside.sessions.items = omega arith in
+    let st = state c.self.inside.entries c.self.inside.events c.self.inside.locks c.self.inside.sessions.items (g.S.RowStore.view c.self.inside.store) c.self.inside.tables.entries in
+    let r = c.index_mut-session.result.now in
+    let at = c.index_mut-session.ensures.value in
+    let scan = c.in-Select.scan in
+    let actor = c.actor_of-actor.ensures in
+    let h : Reading st c.self.inside.last c.args.c c.index_mut-session.result.now c.in-Select.scan = record { within = lt; at = at; phase = c.in-Working.is; planned = c.in-Select.is; holds = c.self.invariant.holds } in
+    scan_described st c.self.inside.last c.args.c r scan h
+
+pub read_row-requires-clause-few : goal.read_row-requires-clause-few
+read_row-requires-clause-few g c =
+    may_hold (state c.self.inside.entries c.self.inside.events c.self.inside.locks c.self.inside.sessions.items (g.S.RowStore.view c.self.inside.store) c.self.inside.tables.entries) c.self.inside.last _ c.self.invariant.holds
+
+pub invariant_of-self-in-Ok : goal.invariant_of-self-in-Ok
+invariant_of-self-in-Ok g c =
+    let lt : c.args.c < length c.self.inside.sessions.items = omega arith in
+    let st = state c.self.inside.entries c.self.inside.events c.self.inside.locks c.self.inside.sessions.items (g.S.RowStore.view c.self.inside.store) c.self.inside.tables.entries in
+    let r = c.index_mut-session.result.now in
+    let at = c.index_mut-session.ensures.value in
+    let scan = c.in-Select.scan in
+    let actor = c.actor_of-actor.ensures in
+    let h : Reading st c.self.inside.last c.args.c c.index_mut-session.result.now c.in-Select.scan = record { within = lt; at = at; phase = c.in-Working.is; planned = c.in-Select.is; holds = c.self.invariant.holds } in
+    scan_goes c.self.inside.entries c.self.inside.events c.self.inside.locks c.self.inside.sessions.items (g.S.RowStore.view c.self.inside.store) (g.S.RowStore.view c.read_row.new.store) c.self.inside.tables.entries c.self.inside.last c.self.inside.owed c.self.inside.owed_events c.args.c r (plan.Select c.take.new.scan) c.self.invariant lt at
+    (scan_takes st c.self.inside.last c.args.c r scan c.take.new.scan c.in-At.rid c.in-Ok-Live.row (g.S.RowStore.view c.read_row.new.store) h c.in-Ok-Live.ensures.content (λ b ne. c.in-Ok-Live.ensures.frame.others b (λ e. ne (e ∙ actor))) c.in-Ok-Live.ensures.frame.limit_same c.in-At.is (subst (IsSeen (g.S.RowStore.view c.self.inside.store).content.heaps c.in-Select.scan.number c.in-At.rid) c.in-Ok-Live.field-0-is c.in-Ok-Live.ensures.saw) c.in-Ok.ensures)
+
+pub invariant_of-self-in-Ok-Passed : goal.invariant_of-self-in-Ok-Passed
+invariant_of-self-in-Ok-Passed g c =
+    let lt : c.args.c < length c.self.inside.sessions.items = omega arith in
+    let st = state c.self.inside.entries c.self.inside.events c.self.inside.locks c.self.inside.sessions.items (g.S.RowStore.view c.self.inside.store) c.self.inside.tables.entries in
+    let r = c.index_mut-session.result.now in
+    let at = c.index_mut-session.ensures.value in
+    let scan = c.in-Select.scan in
+    let actor = c.actor_of-actor.ensures in
+    let h : Reading st c.self.inside.last c.args.c c.index_mut-session.result.now c.in-Select.scan = record { within = lt; at = at; phase = c.in-Working.is; planned = c.in-Select.is; holds = c.self.invariant.holds } in
+    rw c.pass.ensures (
+    scan_goes c.self.inside.entries c.self.inside.events c.self.inside.locks c.self.inside.sessions.items (g.S.RowStore.view c.self.inside.store) (g.S.RowStore.view c.read_row.new.store) c.self.inside.tables.entries c.self.inside.last c.self.inside.owed c.self.inside.owed_events c.args.c r (plan.Select (passed scan c.in-At.rid)) c.self.invariant lt at
+    (scan_passes st c.self.inside.last c.args.c r scan c.in-At.rid (g.S.RowStore.view c.read_row.new.store) h c.in-Ok-Passed.ensures.content (λ b ne. c.in-Ok-Passed.ensures.frame.others b (λ e. ne (e ∙ actor))) c.in-Ok-Passed.ensures.frame.limit_same c.in-At.is (subst (IsSeen (g.S.RowStore.view c.self.inside.store).content.heaps c.in-Select.scan.number c.in-At.rid) c.in-Ok-Passed.field-0-is c.in-Ok-Passed.ensures.saw))
+    )
+
+pub invariant_of-self-in-Ok-Held : goal.invariant_of-self-in-Ok-Held
+invariant_of-self-in-Ok-Held g c =
+    let lt : c.args.c < length c.self.inside.sessions.items = omega arith in
+    let st = state c.self.inside.entries c.self.inside.events c.self.inside.locks c.self.inside.sessions.items (g.S.RowStore.view c.self.inside.store) c.self.inside.tables.entries in
+    let r = c.index_mut-session.result.now in
+    let at = c.index_mut-session.ensures.value in
+    let scan = c.in-Select.scan in
+    let actor = c.actor_of-actor.ensures in
+    let h : Reading st c.self.inside.last c.args.c c.index_mut-session.result.now c.in-Select.scan = record { within = lt; at = at; phase = c.in-Working.is; planned = c.in-Select.is; holds = c.self.invariant.holds } in
+    scan_goes c.self.inside.entries c.self.inside.events c.self.inside.locks c.self.inside.sessions.items (g.S.RowStore.view c.self.inside.store) (g.S.RowStore.view c.let_go.new.self) c.self.inside.tables.entries c.self.inside.last c.self.inside.owed c.self.inside.owed_events c.args.c r (plan.Select scan) c.self.invariant lt at
+    (scan_stays st c.self.inside.last c.args.c r scan (g.S.RowStore.view c.let_go.new.self) h (c.let_go.ensures.same ∙ c.in-Ok-Held.ensures.content) (λ b ne. c.let_go.ensures.frame.others b (λ e. ne (e ∙ actor)) ∙ c.in-Ok-Held.ensures.frame.others b (λ e. ne (e ∙ actor))) (c.let_go.ensures.frame.limit_same ∙ c.in-Ok-Held.ensures.frame.limit_same))
+
+pub invariant_of-self-in-Err-Memory : goal.invariant_of-self-in-Err-Memory
+invariant_of-self-in-Err-Memory g c =
+    let lt : c.args.c < length c.self.inside.sessions.items = omega arith in
+    let st = state c.self.inside.entries c.self.inside.events c.self.inside.locks c.self.inside.sessions.items (g.S.RowStore.view c.self.inside.store) c.self.inside.tables.entries in
+    let r = c.index_mut-session.result.now in
+    let at = c.index_mut-session.ensures.value in
+    let scan = c.in-Select.scan in
+    let actor = c.actor_of-actor.ensures in
+    let h : Reading st c.self.inside.last c.args.c c.index_mut-session.result.now c.in-Select.scan = record { within = lt; at = at; phase = c.in-Working.is; planned = c.in-Select.is; holds = c.self.invariant.holds } in
+    scan_fails c.self.inside.entries c.self.inside.events c.self.inside.locks c.self.inside.sessions.items (g.S.RowStore.view c.self.inside.store) (g.S.RowStore.view c.read_row.new.store) c.self.inside.tables.entries c.self.inside.last c.self.inside.owed c.self.inside.owed_events c.args.c r c.starve-in-Err-Memory.new.session c.self.invariant lt at c.in-Working.is c.starve-in-Err-Memory.ensures
+    (scan_starves st c.self.inside.last c.args.c r scan (plan.Select scan) (g.S.RowStore.view c.read_row.new.store) h c.in-Err-Memory.ensures.content (λ b ne. c.in-Err-Memory.ensures.frame.others b (λ e. ne (e ∙ actor))) c.in-Err-Memory.ensures.frame.limit_same)
+
+pub invariant_of-self-in-Err : goal.invariant_of-self-in-Err
+invariant_of-self-in-Err g c =
+    let lt : c.args.c < length c.self.inside.sessions.items = omega arith in
+    let st = state c.self.inside.entries c.self.inside.events c.self.inside.locks c.self.inside.sessions.items (g.S.RowStore.view c.self.inside.store) c.self.inside.tables.entries in
+    let r = c.index_mut-session.result.now in
+    let at = c.index_mut-session.ensures.value in
+    let scan = c.in-Select.scan in
+    let actor = c.actor_of-actor.ensures in
+    let h : Reading st c.self.inside.last c.args.c c.index_mut-session.result.now c.in-Select.scan = record { within = lt; at = at; phase = c.in-Working.is; planned = c.in-Select.is; holds = c.self.invariant.holds } in
+    scan_goes c.self.inside.entries c.self.inside.events c.self.inside.locks c.self.inside.sessions.items (g.S.RowStore.view c.self.inside.store) (g.S.RowStore.view c.read_row.new.store) c.self.inside.tables.entries c.self.inside.last c.self.inside.owed c.self.inside.owed_events c.args.c r (plan.Select scan) c.self.invariant lt at
+    (scan_stays st c.self.inside.last c.args.c r scan (g.S.RowStore.view c.read_row.new.store) h c.in-Err.ensures.content (λ b ne. c.in-Err.ensures.frame.others b (λ e. ne (e ∙ actor))) c.in-Err.ensures.frame.limit_same)
+
+pub overflow_sub-self : goal.overflow_sub-self
+overflow_sub-self g c =
+    let lt : c.args.c < length c.self.inside.sessions.items = omega arith in
+    let one = (working_owes c.self.inside.entries c.self.inside.events c.self.inside.locks c.self.inside.sessions.items (g.S.RowStore.view c.self.inside.store) c.self.inside.tables.entries c.self.inside.last c.self.inside.owed c.self.inside.owed_events c.args.c c.index_mut-session.result.now c.self.invariant lt c.index_mut-session.ensures.value c.in-Working.is).0 in
+    omega (arith, one)
+
+pub overflow_sub-self-in-Err-Memory : goal.overflow_sub-self-in-Err-Memory
+overflow_sub-self-in-Err-Memory g c =
+    let lt : c.args.c < length c.self.inside.sessions.items = omega arith in
+    let one = (working_owes c.self.inside.entries c.self.inside.events c.self.inside.locks c.self.inside.sessions.items (g.S.RowStore.view c.self.inside.store) c.self.inside.tables.entries c.self.inside.last c.self.inside.owed c.self.inside.owed_events c.args.c c.index_mut-session.result.now c.self.invariant lt c.index_mut-session.ensures.value c.in-Working.is).0 in
+    omega (arith, one)
+
+pub invariant_of-self-in_default-take : goal.invariant_of-self-in_default-take
+invariant_of-self-in_default-take g c =
+    let lt : c.args.c < length c.self.inside.sessions.items = omega arith in
+    let st = state c.self.inside.entries c.self.inside.events c.self.inside.locks c.self.inside.sessions.items (g.S.RowStore.view c.self.inside.store) c.self.inside.tables.entries in
+    let r = c.index_mut-session.result.now in
+    let at = c.index_mut-session.ensures.value in
+    let scan = c.in-Select.scan in
+    let actor = c.actor_of-actor.ensures in
+    let h : Reading st c.self.inside.last c.args.c c.index_mut-session.result.now c.in-Select.scan = record { within = lt; at = at; phase = c.in-Working.is; planned = c.in-Select.is; holds = c.self.invariant.holds } in
+    scan_fails c.self.inside.entries c.self.inside.events c.self.inside.locks c.self.inside.sessions.items (g.S.RowStore.view c.self.inside.store) (g.S.RowStore.view c.read_row.new.store) c.self.inside.tables.entries c.self.inside.last c.self.inside.owed c.self.inside.owed_events c.args.c r c.starve.new.session c.self.invariant lt at c.in-Working.is c.starve.ensures
+    (scan_starves st c.self.inside.last c.args.c r scan (plan.Select c.take.new.scan) (g.S.RowStore.view c.read_row.new.store) h c.in-Ok-Live.ensures.content (λ b ne. c.in-Ok-Live.ensures.frame.others b (λ e. ne (e ∙ actor))) c.in-Ok-Live.ensures.frame.limit_same)

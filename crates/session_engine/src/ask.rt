@@ -1,0 +1,73 @@
+//! The step in which a statement asks for a lock.
+
+use crate::asking::{behind, room_to_ask, starve, wanted};
+use crate::engine::{Engine, actor_of, put};
+use crate::step::{Event, Step, Why};
+use lock_manager::tried::Tried;
+use lock_modes::event::LockEvent;
+use session_model::journal::Locked;
+use store_api::store::RowStore;
+
+impl<S: RowStore> Engine<S> {
+    /// The lock that the statement needs next is granted at once, or its request is queued, or was granted since.
+    pub(crate) fn ask(&mut self, c: usize) -> Step {
+        if c >= self.sessions.len() {
+            return Step::Ended;
+        }
+        self.store.law();
+        self.locks.laws();
+        let session = &mut self.sessions[c];
+        let Some((name, mode)) = wanted(session) else {
+            return Step::Ended;
+        };
+        let txn = session.txn;
+        if session.queued {
+            if let Some(edge) = self.locks.blocker(txn, None) {
+                return Step::Blocked(Why::Lock(edge.holder));
+            }
+            session.queued = false;
+            session.phase = behind(session.phase);
+            return Step::Went(Event::Woken);
+        }
+        let waiters = self.locks.waiters();
+        let place = self.entries.len() as u64;
+        let room = room_to_ask(
+            &mut self.events,
+            &mut self.locks,
+            self.owed_events,
+            waiters,
+            txn,
+        );
+        let Ok(()) = room else {
+            starve(session);
+            self.owed -= 1;
+            return Step::Went(Event::Prepare);
+        };
+        match self.locks.try_lock(txn, name, mode) {
+            Tried::Granted => {
+                put(
+                    &mut self.events,
+                    Locked {
+                        place,
+                        event: LockEvent::Granted(txn, name, mode),
+                    },
+                );
+                session.phase = behind(session.phase);
+                Step::Went(Event::Lock)
+            }
+            Tried::Conflict(_) => {
+                self.store.let_go(actor_of(c));
+                self.locks.enqueue(txn, name, mode);
+                put(
+                    &mut self.events,
+                    Locked {
+                        place,
+                        event: LockEvent::Queued(txn, name, mode),
+                    },
+                );
+                session.queued = true;
+                Step::Went(Event::Enqueue)
+            }
+        }
+    }
+}

@@ -1,0 +1,122 @@
+//! The steps in which a statement begins.
+
+use crate::beginning::{fresh, get_ready, start, started, text_of, turn_away, turned_away};
+use crate::engine::{Engine, put};
+use crate::follows::ends;
+use crate::session::Phase;
+use crate::step::{Event, Step};
+use store_api::answers::StoreAnswer;
+use store_api::store::RowStore;
+
+impl<S: RowStore> Engine<S> {
+    /// The next statement begins, in a new transaction. One for whose transaction the store has no number is refused.
+    pub(crate) fn begin(&mut self, c: usize) -> Step {
+        if c >= self.sessions.len() {
+            return Step::Ended;
+        }
+        self.store.law();
+        let session = &mut self.sessions[c];
+        let Phase::Idle = session.phase else {
+            return Step::Ended;
+        };
+        let false = session.closed else {
+            return Step::Ended;
+        };
+        let Some(txn) = fresh(self.last, self.store.next_txn()) else {
+            return Step::Memory;
+        };
+        let waiters = self.locks.waiters();
+        let ready = get_ready(
+            self.alloc,
+            session,
+            &mut self.entries,
+            &mut self.events,
+            self.owed,
+            self.owed_events,
+            waiters,
+        );
+        let Ok(found) = ready else {
+            return Step::Memory;
+        };
+        let Some(asked) = found else {
+            return Step::Ended;
+        };
+        match self.store.begin(txn) {
+            Ok(()) => {
+                put(
+                    &mut self.entries,
+                    started(txn, c, session.level, asked.text),
+                );
+                start(self.alloc, session, txn, true, 0, asked.long, asked.order);
+                self.last = txn.0;
+                self.owed += ends(session.phase);
+                self.owed_events += 1;
+                Step::Went(Event::Begin)
+            }
+            Err(StoreAnswer::Full(_)) => {
+                put(
+                    &mut self.entries,
+                    started(txn, c, session.level, text_of(asked)),
+                );
+                put(&mut self.entries, turned_away(self.alloc, txn));
+                turn_away(session, txn);
+                self.last = txn.0;
+                self.owed += 1;
+                self.owed_events += 1;
+                Step::Went(Event::Begin)
+            }
+            Err(answer) => {
+                drop(asked);
+                self.note_refused(answer)
+            }
+        }
+    }
+
+    /// The next statement begins, in the transaction that is open.
+    pub(crate) fn resume(&mut self, c: usize) -> Step {
+        if c >= self.sessions.len() {
+            return Step::Ended;
+        }
+        self.store.law();
+        let session = &mut self.sessions[c];
+        let Phase::Resting = session.phase else {
+            return Step::Ended;
+        };
+        let false = session.closed else {
+            return Step::Ended;
+        };
+        let waiters = self.locks.waiters();
+        let ready = get_ready(
+            self.alloc,
+            session,
+            &mut self.entries,
+            &mut self.events,
+            self.owed,
+            self.owed_events,
+            waiters,
+        );
+        let Ok(found) = ready else {
+            return Step::Memory;
+        };
+        let Some(asked) = found else {
+            return Step::Ended;
+        };
+        let txn = session.txn;
+        let mark = self.store.place(txn);
+        put(
+            &mut self.entries,
+            started(txn, c, session.level, asked.text),
+        );
+        start(
+            self.alloc,
+            session,
+            txn,
+            false,
+            mark,
+            asked.long,
+            asked.order,
+        );
+        self.owed += ends(session.phase) - 1;
+        Step::Went(Event::Begin)
+    }
+}

@@ -1,0 +1,123 @@
+//! The steps of a query: it comes to its next row, reads it, and is answered at the end.
+
+use crate::asking::starve;
+use crate::engine::{Engine, actor_of, finished, put};
+use crate::follows::{ends, phase_done};
+use crate::scanning::{Saw, Sought, pass, read_row, seek_row, take, told_rows};
+use crate::session::{Phase, Plan, Where};
+use crate::step::{Event, Step, Why};
+use std::mem;
+use store_api::answers::StoreAnswer;
+use store_api::store::RowStore;
+
+impl<S: RowStore> Engine<S> {
+    /// A query comes to the first row behind the one that it has passed last, or to the end.
+    pub(crate) fn seek(&mut self, c: usize) -> Step {
+        if c >= self.sessions.len() {
+            return Step::Ended;
+        }
+        self.store.law();
+        let actor = actor_of(c);
+        let session = &mut self.sessions[c];
+        let Phase::Working = session.phase else {
+            return Step::Ended;
+        };
+        let Plan::Select(scan) = &mut session.plan else {
+            return Step::Ended;
+        };
+        match seek_row(&mut self.store, actor, scan.number, scan.after) {
+            Ok(Sought::Came(at)) => {
+                scan.at = at;
+                Step::Went(Event::Fix)
+            }
+            Ok(Sought::Onward) => Step::Went(Event::Fix),
+            Ok(Sought::Held(b)) => {
+                self.store.let_go(actor);
+                Step::Blocked(Why::Latch(b))
+            }
+            Err(StoreAnswer::Memory) => {
+                starve(session);
+                self.owed -= 1;
+                Step::Went(Event::Fix)
+            }
+            Err(answer) => self.note(Err(answer), Event::Fix),
+        }
+    }
+
+    /// A query reads the row to which it has come.
+    pub(crate) fn read(&mut self, c: usize) -> Step {
+        if c >= self.sessions.len() {
+            return Step::Ended;
+        }
+        self.store.law();
+        let actor = actor_of(c);
+        let session = &mut self.sessions[c];
+        let Phase::Working = session.phase else {
+            return Step::Ended;
+        };
+        let Plan::Select(scan) = &mut session.plan else {
+            return Step::Ended;
+        };
+        let Where::At(rid) = scan.at else {
+            return Step::Ended;
+        };
+        match read_row(&mut self.store, actor, scan.number, rid) {
+            Ok(Saw::Live(row)) => {
+                let Ok(()) = take(self.alloc, scan, rid, row) else {
+                    starve(session);
+                    self.owed -= 1;
+                    return Step::Went(Event::Read);
+                };
+                Step::Went(Event::Read)
+            }
+            Ok(Saw::Passed) => {
+                pass(scan, rid);
+                Step::Went(Event::Read)
+            }
+            Ok(Saw::Held(b)) => {
+                self.store.let_go(actor);
+                Step::Blocked(Why::Latch(b))
+            }
+            Err(StoreAnswer::Memory) => {
+                starve(session);
+                self.owed -= 1;
+                Step::Went(Event::Read)
+            }
+            Err(answer) => self.note(Err(answer), Event::Read),
+        }
+    }
+
+    /// A query has read its whole table, and is answered.
+    pub(crate) fn answer(&mut self, c: usize) -> Step {
+        if c >= self.sessions.len() {
+            return Step::Ended;
+        }
+        self.store.law();
+        let actor = actor_of(c);
+        let place = self.entries.len() as u64;
+        let session = &mut self.sessions[c];
+        let Phase::Working = session.phase else {
+            return Step::Ended;
+        };
+        let Plan::Select(scan) = &session.plan else {
+            return Step::Ended;
+        };
+        let Where::Ended = scan.at else {
+            return Step::Ended;
+        };
+        self.store.let_go(actor);
+        let planned = mem::replace(&mut session.plan, Plan::Nothing);
+        match planned {
+            Plan::Select(scan) => {
+                put(&mut self.entries, told_rows(session.txn, place, scan));
+                session.phase = phase_done(session.automatic);
+                self.owed -= ends(Phase::Working) - ends(session.phase);
+                finished(session.phase)
+            }
+            other => {
+                session.plan = other;
+                Step::Went(Event::Finish)
+            }
+        }
+    }
+}
