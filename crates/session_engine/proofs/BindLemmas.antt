@@ -186,14 +186,15 @@ binds_insert w l v last c s named name tuples (plan.Insert fill) b order h = (
         catalog = h.prepares.catalog;
         suits = record { target = there_names (seen w (txn_of s)) named name b.0 h.dictionary b.1; suited = b.2 };
         whole = b.3;
-        number = sym b.4;
-        user = ap is_catalog b.4 ∙ user_table (seen w (txn_of s)) named name b.0 h.dictionary b.1;
-        count = b.6;
+        fitting = b.4;
+        number = sym b.5;
+        user = ap is_catalog b.5 ∙ user_table (seen w (txn_of s)) named name b.0 h.dictionary b.1;
+        count = b.7;
       };
       marked = h.prepares.marked;
       unchanged = h.prepares.unchanged;
-      all = ap reverse b.5 ∙ reverse-reverse tuples;
-      no_room = b.7;
+      all = ap reverse b.6 ∙ reverse-reverse tuples;
+      no_room = b.8;
     },
     λ q. absurd (both_ways s.queued h.idle q),
   ),

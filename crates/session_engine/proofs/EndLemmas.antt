@@ -120,7 +120,7 @@ slot_stays heaps table rid before b r there = elim (cases_Bool (b == table)) [
     back None (Some s) ne e = cc
     back (Some x) (Some s) ne e = cc
 
-heap_elsewhere : (heaps : Heaps) (table : ℕ) (rid : RowId) (slot : Option Slot) (b : ℕ) (r : RowId) → (b ≡ table → r ≡ rid → ⊥) → put_slot heaps table rid slot b r ≡ heaps b r
+pub heap_elsewhere : (heaps : Heaps) (table : ℕ) (rid : RowId) (slot : Option Slot) (b : ℕ) (r : RowId) → (b ≡ table → r ≡ rid → ⊥) → put_slot heaps table rid slot b r ≡ heaps b r
 heap_elsewhere heaps table rid slot b r ne = elim (cases_Bool (b == table)) [
   | inl tb ↦ ap (λ x. if x then (if is_same_rid r rid then slot else heaps b r) else heaps b r) tb
       ∙ ap (λ x. if x then slot else heaps b r) (false_from_ne_true _ (λ row. ne (eqb-true b table tb) (rid_is r rid row)))

@@ -19,3 +19,7 @@ pub mod WantLemmas
 pub mod FitLemmas
 pub mod BindLemmas
 pub mod ReadLemmas
+pub mod FillLemmas
+pub mod ColumnLemmas
+pub mod PutLemmas
+pub mod InsertLemmas

@@ -156,6 +156,7 @@ inserts_kept w l v w' l' v' c s fill b more h = let e = b.others.txn in record {
     suited = h.suits.suited;
   };
   whole = h.whole;
+  fitting = h.fitting;
   number = h.number;
   user = h.user;
   count = h.count;

@@ -263,6 +263,7 @@ filling_wants w l v last c s fill is planned busy opened h promised = record {
             catalog = λ table rid x. reads_grow l l' s.txn table rid k (h.inserts.catalog table rid x);
             suits = h.inserts.suits;
             whole = h.inserts.whole;
+            fitting = h.inserts.fitting;
             number = h.inserts.number;
             user = h.inserts.user;
             count = h.inserts.count;
@@ -298,6 +299,7 @@ filling_wants w l v last c s fill is planned busy opened h promised = record {
               catalog = λ table rid x. reads_grow l l' s.txn table rid k (h.inserts.catalog table rid x);
               suits = h.inserts.suits;
               whole = h.inserts.whole;
+              fitting = h.inserts.fitting;
               number = h.inserts.number;
               user = h.inserts.user;
               count = h.inserts.count;
@@ -356,7 +358,7 @@ pub wants_at : (st : State) (last k : ℕ) (r : Session) (n : LockName) (m : Mod
 wants_at st last k r n m lt at e ok = wanting r.phase (world_of st.es) st.lock st.view last (k + 1) r n m refl (own_session st last k r lt at ok).phase e
 
 -- the other parts of a session
-own_part : (w : World) (l l' : Lock) (v v' : View) (last c : ℕ) (r s' : Session) → s' ≡ record r { queued = s'.queued; phase = s'.phase; plan = s'.plan; order = s'.order } → SessionHolds w l v last c r → PhaseHolds s'.phase w l' v' last c s' → SessionHolds w l' v' last c s'
+own_part : (w : World) (l l' : Lock) (v v' : View) (last c : ℕ) (r s' : Session) → s' ≡ record r { queued = s'.queued; phase = s'.phase; plan = s'.plan; order = s'.order; made = s'.made } → SessionHolds w l v last c r → PhaseHolds s'.phase w l' v' last c s' → SessionHolds w l' v' last c s'
 own_part w l l' v v' last c r s' is mine phase = record {
   begun = mine.begun ∙ sym (ap (λ (x : Session). x.begun) is);
   level = mine.level ∙ sym (ap (λ (x : Session). x.level) is);
@@ -400,7 +402,7 @@ same_others w l t = record { txn = refl; reads = λ table rid h. h; writes = λ 
 
 -- a step in which nothing but the connection moves
 pub own_move : (st : State) (last k : ℕ) (r s' : Session) → k < length st.ss → r ≡ get_or st.ss k r → Busy (world_of st.es) st.lock st.view last (k + 1) r → waiting st.lock r.txn ≡ None
-    → s' ≡ record r { queued = s'.queued; phase = s'.phase; plan = s'.plan; order = s'.order } → PhaseHolds s'.phase (world_of st.es) st.lock st.view last (k + 1) s' → Holds st last
+    → s' ≡ record r { queued = s'.queued; phase = s'.phase; plan = s'.plan; order = s'.order; made = s'.made } → PhaseHolds s'.phase (world_of st.es) st.lock st.view last (k + 1) s' → Holds st last
     → Holds (record { es = st.es; ls = st.ls; lock = st.lock; ss = set st.ss k s'; view = st.view; named = st.named }) last
 own_move st last k r s' lt at busy idle is phase ok =
     let w = world_of st.es in
@@ -411,7 +413,7 @@ own_move st last k r s' lt at busy idle is phase ok =
 
 -- and the pages that it holds
 pub own_step : (st : State) (last k : ℕ) (r s' : Session) (v' : View) → k < length st.ss → r ≡ get_or st.ss k r → Busy (world_of st.es) st.lock st.view last (k + 1) r → waiting st.lock r.txn ≡ None
-    → s' ≡ record r { queued = s'.queued; phase = s'.phase; plan = s'.plan; order = s'.order } → v'.content ≡ st.view.content → ((b : ℕ) → b ≢ k + 1 → v'.actors b ≡ st.view.actors b) → v'.limit ≡ st.view.limit
+    → s' ≡ record r { queued = s'.queued; phase = s'.phase; plan = s'.plan; order = s'.order; made = s'.made } → v'.content ≡ st.view.content → ((b : ℕ) → b ≢ k + 1 → v'.actors b ≡ st.view.actors b) → v'.limit ≡ st.view.limit
     → PhaseHolds s'.phase (world_of st.es) st.lock v' last (k + 1) s' → Holds st last
     → Holds (record { es = st.es; ls = st.ls; lock = st.lock; ss = set st.ss k s'; view = v'; named = st.named }) last
 own_step st last k r s' v' lt at busy idle is content actors limit phase ok =

@@ -5,6 +5,8 @@ use Rattle.dby_types.specs.declared.value.Value.{Value}
 use Rattle.journal_model.specs.declared.journal.Refusal.{Refusal}
 use Rattle.journal_model.specs.declared.journal.Refusal.TheVariants.{Sql, Memory}
 use Rattle.journal_model.specs.Meaning.{all_suit, some_null}
+use Rattle.table_model.specs.Fitting.{fits_columns}
+use Rattle.table_model.specs.Tables.{Each}
 use Rattle.session_model.specs.Orders.{is_built}
 use Rattle.sql_commands.specs.declared.command.Command.{Command}
 use Rattle.session_engine.specs.declared.dictionary.Defined.{Defined}
@@ -40,7 +42,7 @@ abbrev pub BindsInsert : List Named → List ℕ → List (List Value) → Plan 
 BindsInsert named name tuples (plan.Refuse why) = RefusesInsert named name tuples why
 BindsInsert named name tuples (plan.Insert fill) =
     (def : Defined) × IsThere named name def × (all_suit def.columns tuples ≡ true) × (some_null def.columns tuples ≡ false)
-    × (fill.number ≡ def.number) × (fill.rows.items ≡ reverse tuples) × (fill.count ≡ length tuples) × (fill.has_room ≡ false)
+    × Each (λ t. fits_columns def.columns t ≡ true) tuples × (fill.number ≡ def.number) × (fill.rows.items ≡ reverse tuples) × (fill.count ≡ length tuples) × (fill.has_room ≡ false)
 BindsInsert named name tuples _ = ⊥
 
 -- WHAT A STATEMENT IS BOUND TO DO, but for one that makes a table

@@ -9,3 +9,4 @@ pub mod Opening
 pub mod Beginning
 pub mod Asking
 pub mod Binding
+pub mod Filling

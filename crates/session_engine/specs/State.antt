@@ -13,6 +13,7 @@ use Rattle.lock_modes.specs.Lock.{Lock, lock_of, queue, request}
 use Rattle.lock_modes.specs.Modes.{has_mode}
 use Rattle.lock_modes.specs.Names.{same_txn}
 use Rattle.lock_modes.specs.Waits.{waiting}
+use Rattle.table_model.specs.Fitting.{fits_columns}
 use Rattle.table_model.specs.Tables.{Tables, Made, Each, no_tables}
 use Rattle.store_api.specs.declared.slot.Item.{Item}
 use Rattle.store_api.specs.declared.slot.Item.TheVariants.{Changed, Created, Discarded}
@@ -208,6 +209,7 @@ pub record Inserts (w : World) (l : Lock) (s : Session) (fill : Fill) : Type 0 w
   pub catalog : ReadsCatalog (locks_of l.grants) (txn_of s)
   pub suits : Suits (seen w (txn_of s)) name tuples
   pub whole : some_null suits.target.def.columns tuples ≡ false
+  pub fitting : Each (λ t. fits_columns suits.target.def.columns t ≡ true) tuples
   pub number : suits.target.def.number ≡ fill.number
   pub user : is_catalog fill.number ≡ false
   pub count : fill.count ≡ length tuples

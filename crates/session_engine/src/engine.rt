@@ -212,6 +212,14 @@ impl<S: RowStore> Engine<S> {
         }
     }
 
+    /// The same of a change, whose statement is to be refused by now.
+    pub(crate) fn note_change(&mut self, answer: StoreAnswer) -> Step {
+        match answer {
+            StoreAnswer::Memory => Step::Went(Event::Change),
+            other => self.note(Err(other), Event::Change),
+        }
+    }
+
     fn stop_for(&mut self, stop: Stop) -> Step {
         self.stop = Some(stop);
         Step::Stopped(stop)

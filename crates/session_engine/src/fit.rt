@@ -1,22 +1,35 @@
 //! Which values may stand in which columns.
 
-ghost use Rattle.std.specs.Prelude.{◌≡◌, ◌&&◌};
+ghost use Rattle.std.specs.Prelude.{◌≡◌, ◌&&◌, true};
+ghost use Rattle.std.specs.Bool.{OnTrue};
+ghost use Rattle.table_model.specs.Fitting.{fits_columns};
+ghost use Rattle.table_model.specs.Tables.{Each};
+ghost use Rattle.value_compare.specs.Storing.{is_storable, is_number_of};
+ghost use Rattle.dby_types.specs.declared.value.Ty.TheVariants.{Big};
 ghost use Rattle.journal_model.specs.Catalog.{fits, suits, is_null, has_null};
 ghost use Rattle.journal_model.specs.Meaning.{all_suit, some_null};
 
 use dby_types::definition::ColumnDef;
 use dby_types::value::{Row, Ty, Value};
 
+/// Each number has 64 bits.
+fn is_big(n: i64) -> bool
+    ensures { (result ≡ true) × (is_number_of Big n ≡ true) }
+{
+    true
+}
+
 /// Whether a value can stand in a column of this type.
 fn fits_type(ty: Ty, value: &Value) -> bool
-    ensures { result ≡ fits ty value.now }
+    ensures exact { result ≡ fits ty value.now }
+    ensures kept { OnTrue result (is_storable ty value.now ≡ true) }
 {
     match value {
         Value::Null => true,
         Value::Num(n) => match ty {
             Ty::Small => -32768 <= *n && *n < 32768,
             Ty::Int => -2147483648 <= *n && *n < 2147483648,
-            Ty::Big => true,
+            Ty::Big => is_big(*n),
             _ => false,
         },
         Value::Bool(_) => match ty {
@@ -32,7 +45,8 @@ fn fits_type(ty: Ty, value: &Value) -> bool
 
 /// Whether a row has a value for each column, of its type.
 fn suits_columns(columns: &[ColumnDef], row: &[Value]) -> bool
-    ensures { result ≡ suits columns.now row.now }
+    ensures exact { result ≡ suits columns.now row.now }
+    ensures kept { OnTrue result (fits_columns columns.now row.now ≡ true) }
 {
     if columns.len() != row.len() {
         return false;
@@ -47,7 +61,8 @@ fn suits_columns(columns: &[ColumnDef], row: &[Value]) -> bool
 
 /// Whether each tuple suits the columns.
 pub(crate) fn all_suiting(columns: &[ColumnDef], tuples: &[Row]) -> bool
-    ensures { result ≡ all_suit columns.now tuples.now }
+    ensures exact { result ≡ all_suit columns.now tuples.now }
+    ensures kept { OnTrue result (Each (λ t. fits_columns columns.now t ≡ true) tuples.now) }
 {
     for tuple in tuples {
         if !suits_columns(columns, tuple.as_slice()) {

@@ -8,6 +8,8 @@ mod beginning;
 mod binding;
 pub mod dictionary;
 pub mod engine;
+mod fill;
+mod filling;
 mod fit;
 mod follows;
 mod opening;

@@ -1,0 +1,129 @@
+//! The steps of an INSERT: it makes room for its next row, puts it, and is answered behind the last.
+
+use crate::asking::starve;
+use crate::engine::{Engine, actor_of, finished, put};
+use crate::filling::{
+    Roomy, inserted, next_row, room_for_row, room_to_change, run_out, told_count,
+};
+use crate::follows::{ends, phase_done};
+use crate::session::{Phase, Plan};
+use crate::step::{Event, Step, Why};
+use dby_types::state::SqlState;
+use store_api::answers::StoreAnswer;
+use store_api::store::RowStore;
+
+impl<S: RowStore> Engine<S> {
+    /// An INSERT makes room for its next row. Where no page is left it is refused.
+    pub(crate) fn widen(&mut self, c: usize) -> Step {
+        if c >= self.sessions.len() {
+            return Step::Ended;
+        }
+        self.store.law();
+        let actor = actor_of(c);
+        let session = &mut self.sessions[c];
+        let Phase::Working = session.phase else {
+            return Step::Ended;
+        };
+        let Plan::Insert(fill) = &mut session.plan else {
+            return Step::Ended;
+        };
+        let false = fill.has_room else {
+            return Step::Ended;
+        };
+        match room_for_row(&mut self.store, actor, session.txn, fill.number) {
+            Ok(Roomy::Made) => {
+                fill.has_room = true;
+                Step::Went(Event::Fix)
+            }
+            Ok(Roomy::Onward) => Step::Went(Event::Fix),
+            Ok(Roomy::Held(b)) => {
+                self.store.let_go(actor);
+                Step::Blocked(Why::Latch(b))
+            }
+            Ok(Roomy::NoPages) => {
+                run_out(self.alloc, session, SqlState::PagesSpent);
+                self.owed -= 1;
+                Step::Went(Event::Fix)
+            }
+            Ok(Roomy::NoLog) => {
+                run_out(self.alloc, session, SqlState::LogSpent);
+                self.owed -= 1;
+                Step::Went(Event::Fix)
+            }
+            Err(StoreAnswer::Memory) => {
+                starve(session);
+                self.owed -= 1;
+                Step::Went(Event::Fix)
+            }
+            Err(answer) => self.note(Err(answer), Event::Fix),
+        }
+    }
+
+    /// An INSERT puts its next row into the room that it has made.
+    pub(crate) fn fill(&mut self, c: usize) -> Step {
+        if c >= self.sessions.len() {
+            return Step::Ended;
+        }
+        self.store.law();
+        let actor = actor_of(c);
+        let did = self.entries.len() as u64;
+        let session = &mut self.sessions[c];
+        let Phase::Working = session.phase else {
+            return Step::Ended;
+        };
+        let Some((number, row)) = next_row(session) else {
+            return Step::Ended;
+        };
+        let Ok(()) = room_to_change(&mut self.entries, &mut session.made, self.owed) else {
+            drop(row);
+            starve(session);
+            self.owed -= 1;
+            return Step::Went(Event::Change);
+        };
+        match self.store.put_row(actor, session.txn, number, &row) {
+            Ok(rid) => {
+                put(&mut session.made, did);
+                put(&mut self.entries, inserted(session.txn, number, rid, row));
+                self.owed += 1;
+                Step::Went(Event::Change)
+            }
+            Err(answer) => {
+                drop(row);
+                starve(session);
+                self.owed -= 1;
+                self.note_change(answer)
+            }
+        }
+    }
+
+    /// An INSERT has put its last row, and is answered by their number.
+    pub(crate) fn count(&mut self, c: usize) -> Step {
+        if c >= self.sessions.len() {
+            return Step::Ended;
+        }
+        self.store.law();
+        let actor = actor_of(c);
+        let place = self.entries.len() as u64;
+        let session = &mut self.sessions[c];
+        let Phase::Working = session.phase else {
+            return Step::Ended;
+        };
+        let Plan::Insert(fill) = &session.plan else {
+            return Step::Ended;
+        };
+        let left = fill.rows.len();
+        if left > 0 {
+            return Step::Ended;
+        }
+        let count = fill.count;
+        self.store.let_go(actor);
+        session.plan = Plan::Nothing;
+        put(
+            &mut self.entries,
+            told_count(self.alloc, session.txn, place, count),
+        );
+        session.phase = phase_done(session.automatic);
+        self.owed -= ends(Phase::Working) - ends(session.phase);
+        finished(session.phase)
+    }
+}
