@@ -23,3 +23,5 @@ pub mod FillLemmas
 pub mod ColumnLemmas
 pub mod PutLemmas
 pub mod InsertLemmas
+pub mod KeptLemmas
+pub mod RunLemmas

@@ -10,3 +10,4 @@ pub mod Beginning
 pub mod Asking
 pub mod Binding
 pub mod Filling
+pub mod Stepped

@@ -1,8 +1,11 @@
 //! The step in which a statement asks for a lock.
 
+ghost use Rattle.std.specs.Prelude.{◌≡◌};
+ghost use Rattle.session_engine.specs.Stepped.{Grows, HasStopped, NotEnded, stop_after};
+
 use crate::asking::{behind, room_to_ask, starve, wanted};
 use crate::engine::{Engine, actor_of, put};
-use crate::step::{Event, Step, Why};
+use crate::step::{ASTRAY, Event, Step, Why};
 use lock_manager::tried::Tried;
 use lock_modes::event::LockEvent;
 use session_model::journal::Locked;
@@ -10,15 +13,22 @@ use store_api::store::RowStore;
 
 impl<S: RowStore> Engine<S> {
     /// The lock that the statement needs next is granted at once, or its request is queued, or was granted since.
-    pub(crate) fn ask(&mut self, c: usize) -> Step {
+    #[tactic(auto, using(crate::proofs::KeptLemmas::kept_scripts, crate::proofs::KeptLemmas::grows_none))]
+    pub(crate) fn ask(&mut self, c: usize) -> Step
+        ensures same { self.new.0 ≡ self.old.0 }
+        ensures grows { Grows result self.old.1 self.new.1 }
+        ensures stops { self.new.4 ≡ stop_after result self.old.4 }
+        ensures cause { HasStopped result (S.view self.new.3) }
+        ensures goes { NotEnded result }
+    {
         if c >= self.sessions.len() {
-            return Step::Ended;
+            return ASTRAY;
         }
         self.store.law();
         self.locks.laws();
         let session = &mut self.sessions[c];
         let Some((name, mode)) = wanted(session) else {
-            return Step::Ended;
+            return ASTRAY;
         };
         let txn = session.txn;
         if session.queued {

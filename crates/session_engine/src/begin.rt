@@ -1,26 +1,36 @@
 //! The steps in which a statement begins.
 
+ghost use Rattle.std.specs.Prelude.{◌≡◌};
+ghost use Rattle.session_engine.specs.Stepped.{Grows, HasStopped, NotEnded, stop_after};
+
 use crate::beginning::{fresh, get_ready, start, started, text_of, turn_away, turned_away};
 use crate::engine::{Engine, put};
 use crate::follows::ends;
 use crate::session::Phase;
-use crate::step::{Event, Step};
+use crate::step::{ASTRAY, Event, Step};
 use store_api::answers::StoreAnswer;
 use store_api::store::RowStore;
 
 impl<S: RowStore> Engine<S> {
     /// The next statement begins, in a new transaction. One for whose transaction the store has no number is refused.
-    pub(crate) fn begin(&mut self, c: usize) -> Step {
+    #[tactic(auto, using(crate::proofs::KeptLemmas::kept_scripts, crate::proofs::KeptLemmas::grows_one, crate::proofs::KeptLemmas::grows_two, crate::proofs::KeptLemmas::grows_none, crate::proofs::KeptLemmas::keeps_for))]
+    pub(crate) fn begin(&mut self, c: usize) -> Step
+        ensures same { self.new.0 ≡ self.old.0 }
+        ensures grows { Grows result self.old.1 self.new.1 }
+        ensures stops { self.new.4 ≡ stop_after result self.old.4 }
+        ensures cause { HasStopped result (S.view self.new.3) }
+        ensures goes { NotEnded result }
+    {
         if c >= self.sessions.len() {
-            return Step::Ended;
+            return ASTRAY;
         }
         self.store.law();
         let session = &mut self.sessions[c];
         let Phase::Idle = session.phase else {
-            return Step::Ended;
+            return ASTRAY;
         };
         let false = session.closed else {
-            return Step::Ended;
+            return ASTRAY;
         };
         let Some(txn) = fresh(self.last, self.store.next_txn()) else {
             return Step::Memory;
@@ -39,7 +49,7 @@ impl<S: RowStore> Engine<S> {
             return Step::Memory;
         };
         let Some(asked) = found else {
-            return Step::Ended;
+            return ASTRAY;
         };
         match self.store.begin(txn) {
             Ok(()) => {
@@ -73,17 +83,24 @@ impl<S: RowStore> Engine<S> {
     }
 
     /// The next statement begins, in the transaction that is open.
-    pub(crate) fn resume(&mut self, c: usize) -> Step {
+    #[tactic(auto, using(crate::proofs::KeptLemmas::kept_scripts, crate::proofs::KeptLemmas::grows_one, crate::proofs::KeptLemmas::grows_none))]
+    pub(crate) fn resume(&mut self, c: usize) -> Step
+        ensures same { self.new.0 ≡ self.old.0 }
+        ensures grows { Grows result self.old.1 self.new.1 }
+        ensures stops { self.new.4 ≡ stop_after result self.old.4 }
+        ensures cause { HasStopped result (S.view self.new.3) }
+        ensures goes { NotEnded result }
+    {
         if c >= self.sessions.len() {
-            return Step::Ended;
+            return ASTRAY;
         }
         self.store.law();
         let session = &mut self.sessions[c];
         let Phase::Resting = session.phase else {
-            return Step::Ended;
+            return ASTRAY;
         };
         let false = session.closed else {
-            return Step::Ended;
+            return ASTRAY;
         };
         let waiters = self.locks.waiters();
         let ready = get_ready(
@@ -99,7 +116,7 @@ impl<S: RowStore> Engine<S> {
             return Step::Memory;
         };
         let Some(asked) = found else {
-            return Step::Ended;
+            return ASTRAY;
         };
         let txn = session.txn;
         let mark = self.store.place(txn);

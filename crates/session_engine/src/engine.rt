@@ -1,11 +1,13 @@
 //! The engine: its connections over one store, and the journal that they write.
 
-ghost use Rattle.std.specs.Prelude.{IfOk, ◌≡◌, ◌+◌, ◌^◌, ◌<◌, ◌≤◌, ◌++◌, [], ◌∷◌, length, vec_len, vec_capacity};
+ghost use Rattle.std.specs.Prelude.{IfOk, IfErr, Some, None, ◌≡◌, ◌+◌, ◌^◌, ◌<◌, ◌≤◌, ◌++◌, [], ◌∷◌, length, vec_len, vec_capacity};
 ghost use Rattle.lock_modes.specs.Lock.{queue};
 ghost use Rattle.lock_manager.specs.Table.{lock, woken_of};
 ghost use Rattle.session_engine.specs.Release.{Idles, Released};
 ghost use Rattle.session_engine.specs.Noted.{noted};
 ghost use Rattle.session_engine.specs.Opening.{IsEmptyStore};
+ghost use Rattle.session_engine.specs.Stepped.{Grows, HasStopped, IsFinished, IsNoted, IsTold, KeepsFor, NotEnded, stop_after};
+ghost use Rattle.session_engine.specs.declared.step.Event.TheVariants.{Change, Rollback};
 ghost use Rattle.session_model.specs.Legal.{IsLegal};
 ghost use Rattle.table_model.specs.Tables.{Each, no_tables};
 
@@ -13,7 +15,7 @@ use crate::dictionary::Tables;
 use crate::follows::{automatic_after, ends, level_after, phase_answered, phase_refused, told};
 use crate::opening::connections;
 use crate::session::{Phase, Plan, Session};
-use crate::step::{Event, Step, Stop, Why};
+use crate::step::{ASTRAY, Event, Step, Stop, Why};
 use dby_types::number::TxnNo;
 use dby_types::seq::Seq;
 use dby_types::value::Txt;
@@ -49,8 +51,9 @@ pub struct Engine<S: RowStore> {
 }
 
 impl<S: RowStore> Model for Engine<S> {
-    ghost use Rattle.std.specs.Prelude.{List, ℕ};
+    ghost use Rattle.std.specs.Prelude.{List, ℕ, Option};
     ghost use Rattle.session_engine.specs.State.{scripts_of};
+    ghost use Rattle.session_engine.specs.declared.step.Stop.{Stop};
     ghost use Rattle.journal_model.specs.declared.journal.Entry.{Entry};
     ghost use Rattle.session_model.specs.declared.journal.Locked.{Locked};
     ghost use Rattle.session_engine.specs.Engine.{EngineHolds};
@@ -59,9 +62,9 @@ impl<S: RowStore> Model for Engine<S> {
 
     ghost coded = { Prim.hlevel (codes, expression.the_row.coded) };
 
-    ghost Value = { List (List ℕ) × List Entry × List Locked × S };
+    ghost Value = { List (List ℕ) × List Entry × List Locked × S × Option Stop };
 
-    ghost view = { λ e. (scripts_of e.sessions.items, e.entries.items, e.events.items, e.store) };
+    ghost view = { λ e. (scripts_of e.sessions.items, e.entries.items, e.events.items, e.store, e.stop) };
 
     ghost invariant = { λ e. EngineHolds e.entries e.events e.locks e.sessions.items (S.view e.store) e.tables.entries e.last e.owed e.owed_events };
 }
@@ -136,7 +139,10 @@ fn release(locks: &mut LockTable, events: &mut Vec<Locked>, place: u64, txn: Txn
 }
 
 /// A statement was told in this step, unless the step stopped.
-fn tells(step: Step, told: bool) -> Step {
+fn tells(step: Step, told: bool) -> Step
+    requires { IsNoted Rollback step }
+    ensures { IsTold step result }
+{
     match step {
         Step::Went(event) => if told {
             Step::Answered
@@ -148,7 +154,9 @@ fn tells(step: Step, told: bool) -> Step {
 }
 
 /// A statement has its answer or its refusal; it is told now where its transaction stays open, else at its end.
-pub(crate) fn finished(phase: Phase) -> Step {
+pub(crate) fn finished(phase: Phase) -> Step
+    ensures { IsFinished result }
+{
     match phase {
         Phase::Resting => Step::Answered,
         _ => Step::Went(Event::Finish),
@@ -165,7 +173,7 @@ impl<S: RowStore + Drop> Engine<S> {
         requires empty { IsEmptyStore (S.view store) }
         requires few { length scripts.old.items < (S.view store).limit }
         requires short { Each (λ s. length s < 2 ^ 32) scripts.old.items }
-        ensures { IfOk result (λ e. e ≡ (scripts.old.items, [], [], store)) }
+        ensures { IfOk result (λ e. e ≡ (scripts.old.items, [], [], store, None)) }
     {
         let sessions = connections(alloc, scripts)?;
         Ok(Engine {
@@ -193,7 +201,16 @@ impl<S: RowStore> Engine<S> {
     }
 
     /// Keeps the store's first failure, and answers it; where there is none, the step went.
-    pub(crate) fn note(&mut self, answer: Result<(), StoreAnswer>, event: Event) -> Step {
+    pub(crate) fn note(&mut self, answer: Result<(), StoreAnswer>, event: Event) -> Step
+        requires { IfErr answer (KeepsFor (S.view self.old.3)) }
+        ensures same { self.new.0 ≡ self.old.0 }
+        ensures entries { self.new.1 ≡ self.old.1 }
+        ensures events { self.new.2 ≡ self.old.2 }
+        ensures store { self.new.3 ≡ self.old.3 }
+        ensures stops { self.new.4 ≡ stop_after result self.old.4 }
+        ensures cause { HasStopped result (S.view self.new.3) }
+        ensures noted { IsNoted event result }
+    {
         match answer {
             Err(StoreAnswer::Failed) => {
                 let faults = self.store.faults();
@@ -205,7 +222,16 @@ impl<S: RowStore> Engine<S> {
     }
 
     /// The same of a call that may want memory; there is nothing to keep of that.
-    pub(crate) fn note_refused(&mut self, answer: StoreAnswer) -> Step {
+    pub(crate) fn note_refused(&mut self, answer: StoreAnswer) -> Step
+        requires { KeepsFor (S.view self.old.3) answer }
+        ensures same { self.new.0 ≡ self.old.0 }
+        ensures entries { self.new.1 ≡ self.old.1 }
+        ensures events { self.new.2 ≡ self.old.2 }
+        ensures store { self.new.3 ≡ self.old.3 }
+        ensures stops { self.new.4 ≡ stop_after result self.old.4 }
+        ensures cause { HasStopped result (S.view self.new.3) }
+        ensures goes { NotEnded result }
+    {
         match answer {
             StoreAnswer::Memory => Step::Memory,
             other => self.note(Err(other), Event::Begin),
@@ -213,26 +239,49 @@ impl<S: RowStore> Engine<S> {
     }
 
     /// The same of a change, whose statement is to be refused by now.
-    pub(crate) fn note_change(&mut self, answer: StoreAnswer) -> Step {
+    pub(crate) fn note_change(&mut self, answer: StoreAnswer) -> Step
+        requires { KeepsFor (S.view self.old.3) answer }
+        ensures same { self.new.0 ≡ self.old.0 }
+        ensures entries { self.new.1 ≡ self.old.1 }
+        ensures events { self.new.2 ≡ self.old.2 }
+        ensures store { self.new.3 ≡ self.old.3 }
+        ensures stops { self.new.4 ≡ stop_after result self.old.4 }
+        ensures cause { HasStopped result (S.view self.new.3) }
+        ensures noted { IsNoted Change result }
+    {
         match answer {
             StoreAnswer::Memory => Step::Went(Event::Change),
             other => self.note(Err(other), Event::Change),
         }
     }
 
-    fn stop_for(&mut self, stop: Stop) -> Step {
+    fn stop_for(&mut self, stop: Stop) -> Step
+        ensures same { self.new.0 ≡ self.old.0 }
+        ensures entries { self.new.1 ≡ self.old.1 }
+        ensures events { self.new.2 ≡ self.old.2 }
+        ensures store { self.new.3 ≡ self.old.3 }
+        ensures stops { self.new.4 ≡ Some stop }
+        ensures is { result ≡ Step.Stopped stop }
+    {
         self.stop = Some(stop);
         Step::Stopped(stop)
     }
 
     /// The commit record: from here on the commit stands, and is not durable yet.
-    pub(crate) fn append(&mut self, c: usize) -> Step {
+    #[tactic(auto, using(crate::proofs::KeptLemmas::kept_scripts, crate::proofs::KeptLemmas::grows_noted, crate::proofs::KeptLemmas::grows_none, crate::proofs::KeptLemmas::keeps_in, crate::proofs::KeptLemmas::goes_noted))]
+    pub(crate) fn append(&mut self, c: usize) -> Step
+        ensures same { self.new.0 ≡ self.old.0 }
+        ensures grows { Grows result self.old.1 self.new.1 }
+        ensures stops { self.new.4 ≡ stop_after result self.old.4 }
+        ensures cause { HasStopped result (S.view self.new.3) }
+        ensures goes { NotEnded result }
+    {
         if c >= self.sessions.len() {
-            return Step::Ended;
+            return ASTRAY;
         }
         let session = &mut self.sessions[c];
         let Phase::Committing = session.phase else {
-            return Step::Ended;
+            return ASTRAY;
         };
         let answer = self.store.append_commit(session.txn);
         put(&mut self.entries, Entry::Committed(session.txn));
@@ -244,12 +293,19 @@ impl<S: RowStore> Engine<S> {
     }
 
     /// The commit is made durable.
-    pub(crate) fn force(&mut self, c: usize) -> Step {
+    #[tactic(auto, using(crate::proofs::KeptLemmas::kept_scripts, crate::proofs::KeptLemmas::grows_none, crate::proofs::KeptLemmas::keeps_in, crate::proofs::KeptLemmas::goes_noted))]
+    pub(crate) fn force(&mut self, c: usize) -> Step
+        ensures same { self.new.0 ≡ self.old.0 }
+        ensures grows { Grows result self.old.1 self.new.1 }
+        ensures stops { self.new.4 ≡ stop_after result self.old.4 }
+        ensures cause { HasStopped result (S.view self.new.3) }
+        ensures goes { NotEnded result }
+    {
         if c >= self.sessions.len() {
-            return Step::Ended;
+            return ASTRAY;
         }
         let Phase::Forcing = self.sessions[c].phase else {
-            return Step::Ended;
+            return ASTRAY;
         };
         let answer = self.store.force();
         if answer.is_ok() {
@@ -260,13 +316,20 @@ impl<S: RowStore> Engine<S> {
     }
 
     /// The commit is durable: all locks go, and the connection may be told.
-    pub(crate) fn acknowledge(&mut self, c: usize) -> Step {
+    #[tactic(auto, using(crate::proofs::KeptLemmas::kept_scripts, crate::proofs::KeptLemmas::grows_one))]
+    pub(crate) fn acknowledge(&mut self, c: usize) -> Step
+        ensures same { self.new.0 ≡ self.old.0 }
+        ensures grows { Grows result self.old.1 self.new.1 }
+        ensures stops { self.new.4 ≡ stop_after result self.old.4 }
+        ensures cause { HasStopped result (S.view self.new.3) }
+        ensures goes { NotEnded result }
+    {
         if c >= self.sessions.len() {
-            return Step::Ended;
+            return ASTRAY;
         }
         let session = &mut self.sessions[c];
         let Phase::Acknowledging = session.phase else {
-            return Step::Ended;
+            return ASTRAY;
         };
         let txn = session.txn;
         put(&mut self.entries, Entry::Acknowledged(txn));
@@ -283,18 +346,25 @@ impl<S: RowStore> Engine<S> {
     }
 
     /// A change of a transaction that leaves is taken back; where none is left, the transaction ends.
-    pub(crate) fn leave(&mut self, c: usize) -> Step {
+    #[tactic(auto, using(crate::proofs::KeptLemmas::kept_scripts, crate::proofs::KeptLemmas::grows_one, crate::proofs::KeptLemmas::grows_none, crate::proofs::KeptLemmas::grows_told, crate::proofs::KeptLemmas::stops_told, crate::proofs::KeptLemmas::cause_told, crate::proofs::KeptLemmas::goes_told, crate::proofs::KeptLemmas::keeps_in, crate::proofs::KeptLemmas::keeps_for, crate::proofs::KeptLemmas::goes_noted))]
+    pub(crate) fn leave(&mut self, c: usize) -> Step
+        ensures same { self.new.0 ≡ self.old.0 }
+        ensures grows { Grows result self.old.1 self.new.1 }
+        ensures stops { self.new.4 ≡ stop_after result self.old.4 }
+        ensures cause { HasStopped result (S.view self.new.3) }
+        ensures goes { NotEnded result }
+    {
         if c >= self.sessions.len() {
-            return Step::Ended;
+            return ASTRAY;
         }
         self.store.law();
         let actor = actor_of(c);
         let session = &mut self.sessions[c];
         let Phase::Leaving = session.phase else {
-            return Step::Ended;
+            return ASTRAY;
         };
         let true = session.opened else {
-            return Step::Ended;
+            return ASTRAY;
         };
         let txn = session.txn;
         match self.store.undo_one(actor, txn, 0) {
@@ -332,16 +402,23 @@ impl<S: RowStore> Engine<S> {
     }
 
     /// A transaction ends that the store never had.
-    pub(crate) fn vanish(&mut self, c: usize) -> Step {
+    #[tactic(auto, using(crate::proofs::KeptLemmas::kept_scripts, crate::proofs::KeptLemmas::grows_told, crate::proofs::KeptLemmas::stops_told, crate::proofs::KeptLemmas::cause_told, crate::proofs::KeptLemmas::goes_told))]
+    pub(crate) fn vanish(&mut self, c: usize) -> Step
+        ensures same { self.new.0 ≡ self.old.0 }
+        ensures grows { Grows result self.old.1 self.new.1 }
+        ensures stops { self.new.4 ≡ stop_after result self.old.4 }
+        ensures cause { HasStopped result (S.view self.new.3) }
+        ensures goes { NotEnded result }
+    {
         if c >= self.sessions.len() {
-            return Step::Ended;
+            return ASTRAY;
         }
         let session = &mut self.sessions[c];
         let Phase::Leaving = session.phase else {
-            return Step::Ended;
+            return ASTRAY;
         };
         let false = session.opened else {
-            return Step::Ended;
+            return ASTRAY;
         };
         let txn = session.txn;
         put(&mut self.entries, Entry::RolledBack(txn));
@@ -355,7 +432,10 @@ impl<S: RowStore> Engine<S> {
     }
 
     /// The script has ended in an open transaction: it is to be taken back.
-    pub(crate) fn give_up(&mut self, c: usize) {
+    #[tactic(auto, using(crate::proofs::KeptLemmas::kept_scripts))]
+    pub(crate) fn give_up(&mut self, c: usize)
+        ensures { self.new ≡ self.old }
+    {
         if c < self.sessions.len() {
             let session = &mut self.sessions[c];
             if let Phase::Resting = session.phase {
@@ -366,15 +446,22 @@ impl<S: RowStore> Engine<S> {
     }
 
     /// A change of a refused statement is taken back; where none is left, the refusal is put.
-    pub(crate) fn refuse(&mut self, c: usize) -> Step {
+    #[tactic(auto, using(crate::proofs::KeptLemmas::kept_scripts, crate::proofs::KeptLemmas::grows_one, crate::proofs::KeptLemmas::grows_none, crate::proofs::KeptLemmas::grows_finished, crate::proofs::KeptLemmas::stops_finished, crate::proofs::KeptLemmas::cause_finished, crate::proofs::KeptLemmas::goes_finished, crate::proofs::KeptLemmas::keeps_for, crate::proofs::KeptLemmas::goes_noted))]
+    pub(crate) fn refuse(&mut self, c: usize) -> Step
+        ensures same { self.new.0 ≡ self.old.0 }
+        ensures grows { Grows result self.old.1 self.new.1 }
+        ensures stops { self.new.4 ≡ stop_after result self.old.4 }
+        ensures cause { HasStopped result (S.view self.new.3) }
+        ensures goes { NotEnded result }
+    {
         if c >= self.sessions.len() {
-            return Step::Ended;
+            return ASTRAY;
         }
         self.store.law();
         let actor = actor_of(c);
         let session = &mut self.sessions[c];
         let Phase::Refusing = session.phase else {
-            return Step::Ended;
+            return ASTRAY;
         };
         let txn = session.txn;
         match self.store.undo_one(actor, txn, session.mark) {
@@ -416,17 +503,24 @@ impl<S: RowStore> Engine<S> {
     }
 
     /// A command is answered: it ends its transaction, or sets its connection.
-    pub(crate) fn command(&mut self, c: usize) -> Step {
+    #[tactic(auto, using(crate::proofs::KeptLemmas::kept_scripts, crate::proofs::KeptLemmas::grows_none, crate::proofs::KeptLemmas::grows_finished, crate::proofs::KeptLemmas::stops_finished, crate::proofs::KeptLemmas::cause_finished, crate::proofs::KeptLemmas::goes_finished))]
+    pub(crate) fn command(&mut self, c: usize) -> Step
+        ensures same { self.new.0 ≡ self.old.0 }
+        ensures grows { Grows result self.old.1 self.new.1 }
+        ensures stops { self.new.4 ≡ stop_after result self.old.4 }
+        ensures cause { HasStopped result (S.view self.new.3) }
+        ensures goes { NotEnded result }
+    {
         if c >= self.sessions.len() {
-            return Step::Ended;
+            return ASTRAY;
         }
         let place = self.entries.len() as u64;
         let session = &mut self.sessions[c];
         let Phase::Working = session.phase else {
-            return Step::Ended;
+            return ASTRAY;
         };
         let Plan::Command(command) = session.plan else {
-            return Step::Ended;
+            return ASTRAY;
         };
         put(
             &mut self.entries,

@@ -1,5 +1,8 @@
 //! The steps of an INSERT: it makes room for its next row, puts it, and is answered behind the last.
 
+ghost use Rattle.std.specs.Prelude.{◌≡◌};
+ghost use Rattle.session_engine.specs.Stepped.{Grows, HasStopped, NotEnded, stop_after};
+
 use crate::asking::starve;
 use crate::engine::{Engine, actor_of, finished, put};
 use crate::filling::{
@@ -7,28 +10,35 @@ use crate::filling::{
 };
 use crate::follows::{ends, phase_done};
 use crate::session::{Phase, Plan};
-use crate::step::{Event, Step, Why};
+use crate::step::{ASTRAY, Event, Step, Why};
 use dby_types::state::SqlState;
 use store_api::answers::StoreAnswer;
 use store_api::store::RowStore;
 
 impl<S: RowStore> Engine<S> {
     /// An INSERT makes room for its next row. Where no page is left it is refused.
-    pub(crate) fn widen(&mut self, c: usize) -> Step {
+    #[tactic(auto, using(crate::proofs::KeptLemmas::kept_scripts, crate::proofs::KeptLemmas::grows_none, crate::proofs::KeptLemmas::goes_noted))]
+    pub(crate) fn widen(&mut self, c: usize) -> Step
+        ensures same { self.new.0 ≡ self.old.0 }
+        ensures grows { Grows result self.old.1 self.new.1 }
+        ensures stops { self.new.4 ≡ stop_after result self.old.4 }
+        ensures cause { HasStopped result (S.view self.new.3) }
+        ensures goes { NotEnded result }
+    {
         if c >= self.sessions.len() {
-            return Step::Ended;
+            return ASTRAY;
         }
         self.store.law();
         let actor = actor_of(c);
         let session = &mut self.sessions[c];
         let Phase::Working = session.phase else {
-            return Step::Ended;
+            return ASTRAY;
         };
         let Plan::Insert(fill) = &mut session.plan else {
-            return Step::Ended;
+            return ASTRAY;
         };
         let false = fill.has_room else {
-            return Step::Ended;
+            return ASTRAY;
         };
         match room_for_row(&mut self.store, actor, session.txn, fill.number) {
             Ok(Roomy::Made) => {
@@ -60,19 +70,26 @@ impl<S: RowStore> Engine<S> {
     }
 
     /// An INSERT puts its next row into the room that it has made.
-    pub(crate) fn fill(&mut self, c: usize) -> Step {
+    #[tactic(auto, using(crate::proofs::KeptLemmas::kept_scripts, crate::proofs::KeptLemmas::grows_one, crate::proofs::KeptLemmas::grows_none, crate::proofs::KeptLemmas::keeps_for, crate::proofs::KeptLemmas::goes_noted))]
+    pub(crate) fn fill(&mut self, c: usize) -> Step
+        ensures same { self.new.0 ≡ self.old.0 }
+        ensures grows { Grows result self.old.1 self.new.1 }
+        ensures stops { self.new.4 ≡ stop_after result self.old.4 }
+        ensures cause { HasStopped result (S.view self.new.3) }
+        ensures goes { NotEnded result }
+    {
         if c >= self.sessions.len() {
-            return Step::Ended;
+            return ASTRAY;
         }
         self.store.law();
         let actor = actor_of(c);
         let did = self.entries.len() as u64;
         let session = &mut self.sessions[c];
         let Phase::Working = session.phase else {
-            return Step::Ended;
+            return ASTRAY;
         };
         let Some((number, row)) = next_row(session) else {
-            return Step::Ended;
+            return ASTRAY;
         };
         let Ok(()) = room_to_change(&mut self.entries, &mut session.made, self.owed) else {
             drop(row);
@@ -97,23 +114,30 @@ impl<S: RowStore> Engine<S> {
     }
 
     /// An INSERT has put its last row, and is answered by their number.
-    pub(crate) fn count(&mut self, c: usize) -> Step {
+    #[tactic(auto, using(crate::proofs::KeptLemmas::kept_scripts, crate::proofs::KeptLemmas::grows_finished, crate::proofs::KeptLemmas::stops_finished, crate::proofs::KeptLemmas::cause_finished, crate::proofs::KeptLemmas::goes_finished))]
+    pub(crate) fn count(&mut self, c: usize) -> Step
+        ensures same { self.new.0 ≡ self.old.0 }
+        ensures grows { Grows result self.old.1 self.new.1 }
+        ensures stops { self.new.4 ≡ stop_after result self.old.4 }
+        ensures cause { HasStopped result (S.view self.new.3) }
+        ensures goes { NotEnded result }
+    {
         if c >= self.sessions.len() {
-            return Step::Ended;
+            return ASTRAY;
         }
         self.store.law();
         let actor = actor_of(c);
         let place = self.entries.len() as u64;
         let session = &mut self.sessions[c];
         let Phase::Working = session.phase else {
-            return Step::Ended;
+            return ASTRAY;
         };
         let Plan::Insert(fill) = &session.plan else {
-            return Step::Ended;
+            return ASTRAY;
         };
         let left = fill.rows.len();
         if left > 0 {
-            return Step::Ended;
+            return ASTRAY;
         }
         let count = fill.count;
         self.store.let_go(actor);

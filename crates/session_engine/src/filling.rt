@@ -1,9 +1,10 @@
 //! How an INSERT finds room for its rows and puts them.
 
-ghost use Rattle.std.specs.Prelude.{◌≡◌, ◌+◌, ◌≤◌, [], IfOk, OnOk, vec_len, vec_capacity};
+ghost use Rattle.std.specs.Prelude.{◌≡◌, ◌+◌, ◌≤◌, [], IfErr, IfOk, OnOk, vec_len, vec_capacity};
 ghost use Rattle.store_api.specs.Effects.{IsDescribed, IsOpen};
 ghost use Rattle.store_api.specs.View.{MayHold};
 ghost use Rattle.session_engine.specs.Filling.{Moves, IsRoomy, IsNextRow, IsPopped, inserted, run_out, told_count};
+ghost use Rattle.session_engine.specs.Stepped.{KeepsFor};
 
 use crate::binding::refused;
 use crate::session::{Fill, Phase, Plan, Session};
@@ -33,6 +34,7 @@ pub(crate) enum Roomy {
 }
 
 /// Looks for room for a new row of a table.
+#[tactic(auto, using(crate::proofs::KeptLemmas::keeps_for))]
 pub(crate) fn room_for_row<S: RowStore>(
     store: &mut S,
     actor: Actor,
@@ -43,6 +45,7 @@ pub(crate) fn room_for_row<S: RowStore>(
     requires described { IsDescribed (S.view store.old) table }
     requires few { MayHold (S.view store.old) actor }
     ensures moves { Moves actor (S.view store.old) (S.view store.new) }
+    ensures cause { IfErr result (KeepsFor (S.view store.new)) }
     ensures made { IfOk result (IsRoomy actor table (S.view store.old) (S.view store.new)) }
 {
     let need = Room::Heap { table };

@@ -1,29 +1,39 @@
 //! The steps of a query: it comes to its next row, reads it, and is answered at the end.
 
+ghost use Rattle.std.specs.Prelude.{◌≡◌};
+ghost use Rattle.session_engine.specs.Stepped.{Grows, HasStopped, NotEnded, stop_after};
+
 use crate::asking::starve;
 use crate::engine::{Engine, actor_of, finished, put};
 use crate::follows::{ends, phase_done};
 use crate::scanning::{Saw, Sought, pass, read_row, seek_row, take, told_rows};
 use crate::session::{Phase, Plan, Where};
-use crate::step::{Event, Step, Why};
+use crate::step::{ASTRAY, Event, Step, Why};
 use std::mem;
 use store_api::answers::StoreAnswer;
 use store_api::store::RowStore;
 
 impl<S: RowStore> Engine<S> {
     /// A query comes to the first row behind the one that it has passed last, or to the end.
-    pub(crate) fn seek(&mut self, c: usize) -> Step {
+    #[tactic(auto, using(crate::proofs::KeptLemmas::kept_scripts, crate::proofs::KeptLemmas::grows_none, crate::proofs::KeptLemmas::goes_noted))]
+    pub(crate) fn seek(&mut self, c: usize) -> Step
+        ensures same { self.new.0 ≡ self.old.0 }
+        ensures grows { Grows result self.old.1 self.new.1 }
+        ensures stops { self.new.4 ≡ stop_after result self.old.4 }
+        ensures cause { HasStopped result (S.view self.new.3) }
+        ensures goes { NotEnded result }
+    {
         if c >= self.sessions.len() {
-            return Step::Ended;
+            return ASTRAY;
         }
         self.store.law();
         let actor = actor_of(c);
         let session = &mut self.sessions[c];
         let Phase::Working = session.phase else {
-            return Step::Ended;
+            return ASTRAY;
         };
         let Plan::Select(scan) = &mut session.plan else {
-            return Step::Ended;
+            return ASTRAY;
         };
         match seek_row(&mut self.store, actor, scan.number, scan.after) {
             Ok(Sought::Came(at)) => {
@@ -45,21 +55,28 @@ impl<S: RowStore> Engine<S> {
     }
 
     /// A query reads the row to which it has come.
-    pub(crate) fn read(&mut self, c: usize) -> Step {
+    #[tactic(auto, using(crate::proofs::KeptLemmas::kept_scripts, crate::proofs::KeptLemmas::grows_none, crate::proofs::KeptLemmas::goes_noted))]
+    pub(crate) fn read(&mut self, c: usize) -> Step
+        ensures same { self.new.0 ≡ self.old.0 }
+        ensures grows { Grows result self.old.1 self.new.1 }
+        ensures stops { self.new.4 ≡ stop_after result self.old.4 }
+        ensures cause { HasStopped result (S.view self.new.3) }
+        ensures goes { NotEnded result }
+    {
         if c >= self.sessions.len() {
-            return Step::Ended;
+            return ASTRAY;
         }
         self.store.law();
         let actor = actor_of(c);
         let session = &mut self.sessions[c];
         let Phase::Working = session.phase else {
-            return Step::Ended;
+            return ASTRAY;
         };
         let Plan::Select(scan) = &mut session.plan else {
-            return Step::Ended;
+            return ASTRAY;
         };
         let Where::At(rid) = scan.at else {
-            return Step::Ended;
+            return ASTRAY;
         };
         match read_row(&mut self.store, actor, scan.number, rid) {
             Ok(Saw::Live(row)) => {
@@ -88,22 +105,29 @@ impl<S: RowStore> Engine<S> {
     }
 
     /// A query has read its whole table, and is answered.
-    pub(crate) fn answer(&mut self, c: usize) -> Step {
+    #[tactic(auto, using(crate::proofs::KeptLemmas::kept_scripts, crate::proofs::KeptLemmas::grows_none, crate::proofs::KeptLemmas::grows_finished, crate::proofs::KeptLemmas::stops_finished, crate::proofs::KeptLemmas::cause_finished, crate::proofs::KeptLemmas::goes_finished))]
+    pub(crate) fn answer(&mut self, c: usize) -> Step
+        ensures same { self.new.0 ≡ self.old.0 }
+        ensures grows { Grows result self.old.1 self.new.1 }
+        ensures stops { self.new.4 ≡ stop_after result self.old.4 }
+        ensures cause { HasStopped result (S.view self.new.3) }
+        ensures goes { NotEnded result }
+    {
         if c >= self.sessions.len() {
-            return Step::Ended;
+            return ASTRAY;
         }
         self.store.law();
         let actor = actor_of(c);
         let place = self.entries.len() as u64;
         let session = &mut self.sessions[c];
         let Phase::Working = session.phase else {
-            return Step::Ended;
+            return ASTRAY;
         };
         let Plan::Select(scan) = &session.plan else {
-            return Step::Ended;
+            return ASTRAY;
         };
         let Where::Ended = scan.at else {
-            return Step::Ended;
+            return ASTRAY;
         };
         self.store.let_go(actor);
         let planned = mem::replace(&mut session.plan, Plan::Nothing);

@@ -1,10 +1,11 @@
 //! How a query finds and keeps its rows.
 
-ghost use Rattle.std.specs.Prelude.{◌≡◌, ◌∷◌, [], IfOk, OnOk};
+ghost use Rattle.std.specs.Prelude.{◌≡◌, ◌∷◌, [], IfErr, IfOk, OnOk};
 ghost use Rattle.store_api.specs.Effects.{IsDescribed};
 ghost use Rattle.store_api.specs.Frames.{Frame};
 ghost use Rattle.store_api.specs.View.{MayHold};
 ghost use Rattle.session_engine.specs.Scanning.{IsSought, IsSeen, Takes, passed, told_rows};
+ghost use Rattle.session_engine.specs.Stepped.{KeepsFor};
 
 use crate::session::{Scan, Where};
 use dby_types::answer::{Answer, Component};
@@ -29,6 +30,7 @@ pub(crate) enum Sought {
 }
 
 /// Looks for the first row of a table behind a row id, live or marked.
+#[tactic(auto, using(crate::proofs::KeptLemmas::keeps_for, crate::proofs::KeptLemmas::keeps_held))]
 pub(crate) fn seek_row<S: RowStore>(
     store: &mut S,
     actor: Actor,
@@ -39,6 +41,7 @@ pub(crate) fn seek_row<S: RowStore>(
     requires few { MayHold (S.view store.old) actor }
     ensures frame { Frame actor (S.view store.old) (S.view store.new) }
     ensures content { (S.view store.new).content ≡ (S.view store.old).content }
+    ensures cause { IfErr result (KeepsFor (S.view store.new)) }
     ensures sought { IfOk result (IsSought (S.view store.old).content.heaps table after) }
 {
     let target = Target::Heap { table, after };
@@ -73,6 +76,7 @@ pub(crate) enum Saw {
 }
 
 /// Looks at a row.
+#[tactic(auto, using(crate::proofs::KeptLemmas::keeps_for))]
 pub(crate) fn read_row<S: RowStore>(
     store: &mut S,
     actor: Actor,
@@ -83,6 +87,7 @@ pub(crate) fn read_row<S: RowStore>(
     requires few { MayHold (S.view store.old) actor }
     ensures frame { Frame actor (S.view store.old) (S.view store.new) }
     ensures content { (S.view store.new).content ≡ (S.view store.old).content }
+    ensures cause { IfErr result (KeepsFor (S.view store.new)) }
     ensures saw { IfOk result (IsSeen (S.view store.old).content.heaps table rid) }
 {
     match store.row(actor, table, rid) {

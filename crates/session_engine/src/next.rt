@@ -1,0 +1,110 @@
+//! Which step a connection makes next.
+
+ghost use Rattle.std.specs.Prelude.{◌≡◌, nat_le, length, false};
+ghost use Rattle.session_engine.specs.Stepped.{ends_now, is_end_of};
+
+use crate::session::{Fill, Phase, Plan, Scan, Session, Where};
+
+/// What a bound statement does next: a query's steps, an INSERT's, and that of a command.
+#[derive(Clone, Copy, Debug, PartialEq, Eq)]
+pub(crate) enum Work {
+    Seek,
+    Read,
+    Answer,
+    Widen,
+    Fill,
+    Count,
+    Command,
+}
+
+/// What comes behind a statement: the commit, or the way back.
+#[derive(Clone, Copy, Debug, PartialEq, Eq)]
+pub(crate) enum Close {
+    Append,
+    Force,
+    Acknowledge,
+    /// The script has no further statement, and a transaction is open.
+    GiveUp,
+    Leave,
+    Vanish,
+}
+
+/// The step that a connection makes next.
+#[derive(Clone, Copy, Debug, PartialEq, Eq)]
+pub(crate) enum Next {
+    /// The script has no further statement, and no transaction is open.
+    End,
+    Begin,
+    Resume,
+    Ask,
+    Prepare,
+    Work(Work),
+    Refuse,
+    Close(Close),
+}
+
+/// Whether all statements of its script have begun.
+fn is_through(session: &Session) -> bool
+    ensures { result ≡ nat_le (length session.now.spans) session.now.begun }
+{
+    session.begun >= session.spans.len()
+}
+
+/// A query comes to a row, reads it, and so on to the end.
+fn next_of_scan(scan: &Scan) -> Work {
+    match scan.at {
+        Where::Lost => Work::Seek,
+        Where::At(_) => Work::Read,
+        Where::Ended => Work::Answer,
+    }
+}
+
+/// An INSERT makes room for a row, puts it, and so on behind the last.
+fn next_of_fill(fill: &Fill) -> Work {
+    if fill.rows.is_empty() {
+        Work::Count
+    } else if fill.has_room {
+        Work::Fill
+    } else {
+        Work::Widen
+    }
+}
+
+/// What a bound statement does next.
+fn next_of_plan(plan: &Plan) -> Work {
+    match plan {
+        Plan::Select(scan) => next_of_scan(scan),
+        Plan::Insert(fill) => next_of_fill(fill),
+        _ => Work::Command,
+    }
+}
+
+/// What a connection does next. It ends only where no transaction is open and its script is through.
+pub(crate) fn next_step(session: &Session) -> Next
+    ensures { is_end_of result ≡ ends_now session.now.phase (nat_le (length session.now.spans) session.now.begun) }
+{
+    match session.phase {
+        Phase::Idle => if is_through(session) {
+            Next::End
+        } else {
+            Next::Begin
+        },
+        Phase::Resting => if is_through(session) {
+            Next::Close(Close::GiveUp)
+        } else {
+            Next::Resume
+        },
+        Phase::Asking | Phase::Claiming => Next::Ask,
+        Phase::Preparing => Next::Prepare,
+        Phase::Working => Next::Work(next_of_plan(&session.plan)),
+        Phase::Refusing => Next::Refuse,
+        Phase::Committing => Next::Close(Close::Append),
+        Phase::Forcing => Next::Close(Close::Force),
+        Phase::Acknowledging => Next::Close(Close::Acknowledge),
+        Phase::Leaving => if session.opened {
+            Next::Close(Close::Leave)
+        } else {
+            Next::Close(Close::Vanish)
+        },
+    }
+}
