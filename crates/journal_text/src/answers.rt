@@ -70,7 +70,7 @@ fn put_columns<K: Sink>(out: &mut Outbox, sink: &mut K, columns: &[Name])
 }
 
 /// Prints a line of a word and a number.
-pub(crate) fn put_counted<K: Sink>(out: &mut Outbox, sink: &mut K, word: &[u8], count: u64)
+pub fn put_counted<K: Sink>(out: &mut Outbox, sink: &mut K, word: &[u8], count: u64)
     ensures { Prints (K.seen sink.old) out.old (K.seen sink.new) out.new (counted word.now count) }
 {
     out.put(sink, word);

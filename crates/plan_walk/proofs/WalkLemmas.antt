@@ -1,0 +1,99 @@
+-- Steps and lines, put together one at a time.
+use Rattle.std.proofs.Common.{◌≡◌, ℕ, zero, suc, ◌+◌, ◌<◌, ◌≤◌, List, [], ◌∷◌, ◌++◌, length, take, drop, get_or, Bool, true, false, refl, sym, ◌∙◌, ap, subst, arith, Option, Some, None}
+use Rattle.journal_model.specs.declared.journal.Entry.{Entry}
+use Rattle.session_engine.specs.Stepped.{Grows, HasEnded}
+use Rattle.session_engine.specs.declared.step.Event.{Event}
+use Rattle.session_engine.specs.declared.step.Step.{Step}
+use Rattle.session_engine.specs.declared.step.Step.TheVariants.{Went, Blocked, Answered, Stopped, Ended, Memory as NoMemory}
+use Rattle.step_plan.specs.declared.plan.StepLine.{StepLine}
+use Rattle.plan_walk.specs.declared.walk.Walked.{Walked}
+use Rattle.plan_walk.specs.declared.walk.Walked.TheVariants.{Whole, Stopped as HasStopped, Memory}
+use Rattle.plan_walk.specs.Walk.{IsStep, Goes, IsLine, EndsLine, Walks, Halts, IsWalk, halt_of, pauses}
+
+-- a step that doesn't pause went
+goes_more : (scripts : List (List ℕ)) (c k : ℕ) (old mid new : List Entry) (answer : Step) → Goes scripts c k old mid → IsStep scripts c mid new answer → pauses answer ≡ false → Goes scripts c (suc k) old new
+goes_more scripts c k old mid new (Went event) goes step is = (mid, event, goes, step)
+goes_more scripts c k old mid new (Blocked why) goes step is = absurd (let x : true ≡ false = is in cc)
+goes_more scripts c k old mid new Answered goes step is = absurd (let x : true ≡ false = is in cc)
+goes_more scripts c k old mid new Ended goes step is = absurd (let x : true ≡ false = is in cc)
+goes_more scripts c k old mid new (Stopped s) goes step is = absurd (let x : true ≡ false = is in cc)
+goes_more scripts c k old mid new NoMemory goes step is = absurd (let x : true ≡ false = is in cc)
+
+pub goes_one_more : (scripts : List (List ℕ)) (c k : ℕ) (old mid new : List Entry) (answer : Step) → Goes scripts c k old mid → IsStep scripts c mid new answer → pauses answer ≡ false → Goes scripts c (k + 1) old new
+goes_one_more scripts c k old mid new answer goes step is = subst (λ (n : ℕ). Goes scripts c n old new) (let e : suc k ≡ k + 1 = omega arith in e) (goes_more scripts c k old mid new answer goes step is)
+
+pub line_done : (scripts : List (List ℕ)) (line : StepLine) (k : ℕ) (old new : List Entry) → Goes scripts line.connection k old new → k ≡ line.steps → IsLine scripts line old new None
+line_done scripts line k old new goes all = record { went = k; mid = new; goes = goes; ends = (all, refl) }
+
+pub line_paused : (scripts : List (List ℕ)) (line : StepLine) (k : ℕ) (old mid new : List Entry) (told : Step) → Goes scripts line.connection k old mid → k < line.steps → pauses told ≡ true
+    → IsStep scripts line.connection mid new told → IsLine scripts line old new (Some told)
+line_paused scripts line k old mid new told goes less is step = record { went = k; mid = mid; goes = goes; ends = (less, is, step) }
+
+-- one line more
+pub walks_more : (scripts : List (List ℕ)) (lines : List StepLine) (line : StepLine) (old mid new : List Entry) (last : Option Step) → Walks scripts lines old mid → IsLine scripts line mid new last → halt_of last ≡ None → Walks scripts (lines ++ line ∷ []) old new
+walks_more scripts [] line old mid new last walks is goes = (new, last, subst (λ (es : List Entry). IsLine scripts line es new last) walks is, goes, refl)
+walks_more scripts (l ∷ ls) line old mid new last walks is goes = (walks.0, walks.1, walks.2, walks.3, walks_more scripts ls line walks.0 mid new last walks.4 is goes)
+
+-- a list up to a place, and what stands there
+parts : (xs : List StepLine) (i : ℕ) (d : StepLine) → i < length xs → xs ≡ take i xs ++ get_or xs i d ∷ drop (suc i) xs
+parts [] i d lt = absurd (omega arith)
+parts (y ∷ ys) zero d lt = refl
+parts (y ∷ ys) (suc i) d lt = ap (λ zs. y ∷ zs) (parts ys i d (omega arith))
+
+take_suc : (xs : List StepLine) (i : ℕ) (d : StepLine) → i < length xs → take (suc i) xs ≡ take i xs ++ get_or xs i d ∷ []
+take_suc [] i d lt = absurd (omega arith)
+take_suc (y ∷ ys) zero d lt = refl
+take_suc (y ∷ ys) (suc i) d lt = ap (λ zs. y ∷ zs) (take_suc ys i d (omega arith))
+
+take_more : (xs : List StepLine) (i : ℕ) (d : StepLine) → i < length xs → take (i + 1) xs ≡ take i xs ++ get_or xs i d ∷ []
+take_more xs i d lt = ap (λ n. take n xs) (let e : i + 1 ≡ suc i = omega arith in e) ∙ take_suc xs i d lt
+
+walks_next : (scripts : List (List ℕ)) (lines : List StepLine) (i : ℕ) (d : StepLine) (old mid new : List Entry) (last : Option Step) → i < length lines
+    → Walks scripts (take i lines) old mid → IsLine scripts (get_or lines i d) mid new last → halt_of last ≡ None → Walks scripts (take (i + 1) lines) old new
+walks_next scripts lines i d old mid new last lt walks is goes =
+    subst (λ (ls : List StepLine). Walks scripts ls old new) (sym (take_more lines i d lt)) (walks_more scripts (take i lines) (get_or lines i d) old mid new last walks is goes)
+
+walk_halts : (scripts : List (List ℕ)) (lines : List StepLine) (i : ℕ) (d : StepLine) (old mid new : List Entry) (last : Option Step) (how : Walked) → i < length lines
+    → Walks scripts (take i lines) old mid → IsLine scripts (get_or lines i d) mid new last → halt_of last ≡ Some how → Halts scripts lines old new how
+walk_halts scripts lines i d old mid new last how lt walks is halts = record {
+  before = take i lines;
+  line = get_or lines i d;
+  behind = drop (suc i) lines;
+  lines_are = parts lines i d lt;
+  mid = mid;
+  walks = walks;
+  last = last;
+  halts = is;
+  how_is = halts;
+}
+
+-- the walk ends with the line that ended so
+never_whole : (last : Option Step) → halt_of last ≡ Some Whole → ⊥
+never_whole None e = let x : None ≡ Some Whole = e in cc
+never_whole (Some (Went event)) e = let x : None ≡ Some Whole = e in cc
+never_whole (Some (Blocked why)) e = let x : None ≡ Some Whole = e in cc
+never_whole (Some Answered) e = let x : None ≡ Some Whole = e in cc
+never_whole (Some Ended) e = let x : None ≡ Some Whole = e in cc
+never_whole (Some (Stopped s)) e = let x : Some (HasStopped s) ≡ Some Whole = e in cc
+never_whole (Some NoMemory) e = let x : Some Memory ≡ Some Whole = e in cc
+
+walk_ends : (scripts : List (List ℕ)) (lines : List StepLine) (i : ℕ) (d : StepLine) (old mid new : List Entry) (last : Option Step) (how : Walked) → i < length lines
+    → Walks scripts (take i lines) old mid → IsLine scripts (get_or lines i d) mid new last → halt_of last ≡ Some how → IsWalk scripts lines old new how
+walk_ends scripts lines i d old mid new last Whole lt walks is halts = absurd (never_whole last halts)
+walk_ends scripts lines i d old mid new last (HasStopped s) lt walks is halts = walk_halts scripts lines i d old mid new last (HasStopped s) lt walks is halts
+walk_ends scripts lines i d old mid new last Memory lt walks is halts = walk_halts scripts lines i d old mid new last Memory lt walks is halts
+
+pub not_some : (last : Option Step) (h : Option Walked) → h ≡ halt_of last → ((how : Walked) → h ≡ Some how → ⊥) → halt_of last ≡ None
+not_some last None is ne = sym is
+not_some last (Some how) is ne = absurd (ne how refl)
+
+-- with what the call of a line says, of the engine's own scripts
+pub goes_on_with : (scripts own : List (List ℕ)) (lines : List StepLine) (i : ℕ) (d line : StepLine) (old mid new : List Entry) (last : Option Step) → IsLine own line mid new last → line ≡ get_or lines i d → own ≡ scripts → i < length lines
+    → Walks scripts (take i lines) old mid → halt_of last ≡ None → Walks scripts (take (i + 1) lines) old new
+goes_on_with scripts own lines i d line old mid new last is at same lt walks goes =
+    walks_next scripts lines i d old mid new last lt walks (subst (λ (l : StepLine). IsLine scripts l mid new last) at (subst (λ (ss : List (List ℕ)). IsLine ss line mid new last) same is)) goes
+
+pub ends_with : (scripts own : List (List ℕ)) (lines : List StepLine) (i : ℕ) (d line : StepLine) (old mid new : List Entry) (last : Option Step) (how : Walked) → IsLine own line mid new last → line ≡ get_or lines i d → own ≡ scripts → i < length lines
+    → Walks scripts (take i lines) old mid → halt_of last ≡ Some how → IsWalk scripts lines old new how
+ends_with scripts own lines i d line old mid new last how is at same lt walks halts =
+    walk_ends scripts lines i d old mid new last how lt walks (subst (λ (l : StepLine). IsLine scripts l mid new last) at (subst (λ (ss : List (List ℕ)). IsLine ss line mid new last) same is)) halts

@@ -1,0 +1,4 @@
+//! A walk of an engine by a plan: line by line, each so many steps of a connection.
+#![tactic(auto)]
+
+pub mod walk;
