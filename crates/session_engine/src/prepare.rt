@@ -1,6 +1,6 @@
 //! The step in which a statement is bound.
 
-use crate::binding::{bind, bound_phase, is_create};
+use crate::binding::{bind, bound_phase};
 use crate::engine::Engine;
 use crate::follows::ends;
 use crate::session::Phase;
@@ -9,7 +9,7 @@ use std::mem;
 use store_api::store::RowStore;
 
 impl<S: RowStore> Engine<S> {
-    /// A statement is bound over the dictionary, which its transaction shares. One that makes a table has no step of its own yet.
+    /// A statement is bound over the dictionary, which its transaction shares.
     pub(crate) fn prepare(&mut self, c: usize) -> Step {
         if c >= self.sessions.len() {
             return Step::Ended;
@@ -18,9 +18,6 @@ impl<S: RowStore> Engine<S> {
         let Phase::Preparing = session.phase else {
             return Step::Ended;
         };
-        if is_create(&session.order) {
-            return Step::Ended;
-        }
         let order = mem::replace(&mut session.order, None);
         session.plan = bind(self.alloc, &self.tables, order);
         session.phase = bound_phase(&session.plan);
