@@ -24,7 +24,8 @@ use Rattle.sql_forms.specs.declared.form.Form.TheVariants.{CreateTable, Insert, 
 use Rattle.session_model.specs.declared.order.Order.{Order}
 use Rattle.session_model.specs.declared.order.Order.TheVariants as ordered
 use Rattle.session_model.specs.Legal.{Wants, dictionary_mode}
-use Rattle.session_model.specs.Places.{ReadsCatalog, locks_of, guard}
+use Rattle.session_model.specs.Orders.{is_create}
+use Rattle.session_model.specs.Places.{ReadsCatalog, WritesCatalog, locks_of, guard}
 use Rattle.session_model.proofs.LockLemmas.{event_grew, grew_others}
 use Rattle.session_engine.specs.declared.session.Session.{Session}
 use Rattle.session_engine.specs.State.{State, Holds, SessionHolds, Busy, Waits, times_in, world_of, txn_of}
@@ -163,3 +164,13 @@ relies_on_catalog l t o h = λ table rid c.
       | inl s ↦ or_left _ _ (ap (λ n. has_mode (l.grants t n) TS) name ∙ subst (λ m. has_mode (l.grants t Dictionary) m ≡ true) s h)
       | inr x ↦ or_right _ _ (ap (λ n. has_mode (l.grants t n) TX) name ∙ subst (λ m. has_mode (l.grants t Dictionary) m ≡ true) x h)
     ]
+
+-- and who asked for it to make a table has it alone
+pub writes_catalog : (l : Lock) (t : TxnNo) (o : Option Order) → is_create o ≡ true → has_mode (l.grants t Dictionary) (dictionary_mode o) ≡ true → WritesCatalog (locks_of l.grants) t.0
+writes_catalog l t None c h = cc
+writes_catalog l t (Some (ordered.Command d)) c h = cc
+writes_catalog l t (Some (ordered.Form (CreateTable name columns))) c h = λ table rid k.
+    let is : guard table ≡ Dictionary = ap (λ b. if b then Dictionary else Table table) k in
+    ap (λ n. has_mode (l.grants t n) TX) is ∙ h
+writes_catalog l t (Some (ordered.Form (Insert name tuples))) c h = cc
+writes_catalog l t (Some (ordered.Form (Select name))) c h = cc

@@ -4,6 +4,7 @@ use Rattle.std.specs.Prelude.{if◌then◌else◌}
 use Rattle.std.proofs.lemmas.List.{reverse-reverse}
 use Rattle.std.proofs.lemmas.Bool.{both_ways}
 use Rattle.std.proofs.lemmas.Bool.Decides.{nat_tests}
+use Rattle.dby_types.specs.declared.definition.ColumnDef.{ColumnDef}
 use Rattle.dby_types.specs.declared.definition.TableDef.{TableDef}
 use Rattle.dby_types.specs.declared.state.SqlState.{SqlState}
 use Rattle.dby_types.specs.declared.state.SqlState.TheVariants as state
@@ -12,7 +13,7 @@ use Rattle.lock_modes.specs.Lock.{Lock}
 use Rattle.store_api.specs.View.{View}
 use Rattle.table_model.specs.Tables.{Tables, Each, laid_over}
 use Rattle.journal_model.specs.Catalog.{NoTable}
-use Rattle.journal_model.specs.Meaning.{is_long, Names, Suits}
+use Rattle.journal_model.specs.Meaning.{is_long, Names, Suits, names_twice}
 use Rattle.journal_model.specs.declared.journal.Refusal.{Refusal}
 use Rattle.journal_model.specs.declared.journal.Refusal.TheVariants.{Sql, Memory}
 use Rattle.sql_commands.specs.declared.command.Command.{Command}
@@ -20,7 +21,7 @@ use Rattle.sql_forms.specs.declared.form.Form.TheVariants.{Select, Insert, Creat
 use Rattle.session_model.specs.declared.order.Order.{Order}
 use Rattle.session_model.specs.declared.order.Order.TheVariants as ordered
 use Rattle.session_model.specs.Legal.{HasEvidence, NullInOrder}
-use Rattle.session_model.specs.Orders.{order_of, is_built, RefusedIf, RefusedOrder, PassesOrder}
+use Rattle.session_model.specs.Orders.{order_of, is_built, is_create, RefusedIf, RefusedOrder, PassesOrder}
 use Rattle.session_model.specs.Places.{ReadsCatalog, Shared, locks_of, is_catalog}
 use Rattle.session_model.specs.World.{World, running, seen}
 use Rattle.session_model.proofs.FitLemmas.{SameCatalog}
@@ -29,7 +30,7 @@ use Rattle.session_engine.specs.declared.session.Phase.TheVariants.{Preparing, R
 use Rattle.session_engine.specs.declared.session.Plan.{Plan}
 use Rattle.session_engine.specs.declared.session.Plan.TheVariants as plan
 use Rattle.session_engine.specs.declared.session.Session.{Session}
-use Rattle.session_engine.specs.Binding.{IsBound, BindsSelect, BindsInsert, bound_phase}
+use Rattle.session_engine.specs.Binding.{IsBound, BindsSelect, BindsInsert, BindsCreate, bound_phase}
 use Rattle.session_engine.specs.Dictionary.{Named, Among, IsThere, IsAbsent, IsDictionary, definition_of, named_of}
 use Rattle.session_engine.specs.State.{State, Holds, Busy, Prepares, IsOpened, IsShown, IsStage, Reflects, PhaseHolds, ends_in, opens, world_of, txn_of}
 use Rattle.session_engine.proofs.EndLemmas.{dictionary_same}
@@ -118,6 +119,7 @@ binds_select : (w : World) (l : Lock) (v : View) (last c : ℕ) (s : Session) (n
 binds_select w l v last c s named name plan.Nothing b order h = absurd b
 binds_select w l v last c s named name (plan.Command d) b order h = absurd b
 binds_select w l v last c s named name (plan.Insert fill) b order h = absurd b
+binds_select w l v last c s named name (plan.Create make) b order h = absurd b
 binds_select w l v last c s named name (plan.Refuse why) b order h =
     refuses_bound w l v last c s named why h (subst (IsShown w l s) (sym b.0) (inr (
       h.prepares.catalog,
@@ -153,6 +155,7 @@ binds_insert : (w : World) (l : Lock) (v : View) (last c : ℕ) (s : Session) (n
 binds_insert w l v last c s named name tuples plan.Nothing b order h = absurd b
 binds_insert w l v last c s named name tuples (plan.Command d) b order h = absurd b
 binds_insert w l v last c s named name tuples (plan.Select scan) b order h = absurd b
+binds_insert w l v last c s named name tuples (plan.Create make) b order h = absurd b
 binds_insert w l v last c s named name tuples (plan.Refuse why) b order h =
     let text = (w.txns (txn_of s)).text in
     let f = seen w (txn_of s) in
@@ -200,6 +203,45 @@ binds_insert w l v last c s named name tuples (plan.Insert fill) b order h = (
   ),
 )
 
+binds_create : (w : World) (l : Lock) (v : View) (last c : ℕ) (s : Session) (named : List Named) (name : List ℕ) (columns : List ColumnDef) (p : Plan) → BindsCreate named name columns p → s.order ≡ Some (ordered.Form (CreateTable name columns))
+    → Bindable w l v last c s named → PhaseHolds (bound_phase p) w l v last c (bound s p)
+binds_create w l v last c s named name columns plan.Nothing b order h = absurd b
+binds_create w l v last c s named name columns (plan.Command d) b order h = absurd b
+binds_create w l v last c s named name columns (plan.Select scan) b order h = absurd b
+binds_create w l v last c s named name columns (plan.Insert fill) b order h = absurd b
+binds_create w l v last c s named name columns (plan.Refuse why) b order h =
+    let text = (w.txns (txn_of s)).text in
+    let f = seen w (txn_of s) in
+    let is : order_of text ≡ Some (ordered.Form (CreateTable name columns)) = sym h.prepares.order ∙ order in
+    refuses_bound w l v last c s named why h (subst (IsShown w l s) (sym b.0) (inr (
+      h.prepares.catalog,
+      (
+        refl,
+        refused_shows text f (Some (ordered.Form (CreateTable name columns))) state.NotBuilt h.prepares.runs.short is
+            (refl, elim b.1 [ inl there ↦ inl (there_names f named name there.0 h.dictionary there.1) | inr fault ↦ inr fault ]),
+      ),
+    )))
+binds_create w l v last c s named name columns (plan.Create make) b order h = (
+  busy_bound w l v last c s (bound s (plan.Create make)) refl refl refl refl h.runs h.busy,
+  h.idle,
+  h.opened,
+  record {
+    bears = record {
+      runs = record { first = h.prepares.runs.first; since = h.prepares.runs.since; short = h.prepares.runs.short };
+      order = sym h.prepares.order ∙ order ∙ ap (λ n. Some (ordered.Form (CreateTable n columns))) (sym b.3.name_is) ∙ ap (λ cs. Some (ordered.Form (CreateTable make.def.name cs))) (sym b.3.columns_are);
+      alone = h.prepares.alone (ap is_create order);
+      fresh = subst (NoTable (seen w (txn_of s))) (sym b.3.name_is) (absent_none (seen w (txn_of s)) named name h.dictionary b.0);
+      distinct = ap names_twice b.3.columns_are ∙ b.1;
+      few = subst (λ (cs : List ColumnDef). length cs ≤ 64) (sym b.3.columns_are) b.2;
+    };
+    marked = h.prepares.marked;
+    unchanged = h.prepares.unchanged;
+    unmade = b.3.unmade;
+    none = b.3.none;
+    no_room = b.3.no_room;
+  },
+)
+
 binds_order : (w : World) (l : Lock) (v : View) (last c : ℕ) (s : Session) (named : List Named) (o : Option Order) (p : Plan) → IsBound named o p → s.order ≡ o
     → Bindable w l v last c s named → PhaseHolds (bound_phase p) w l v last c (bound s p)
 binds_order w l v last c s named None p b order h = subst (λ q. PhaseHolds (bound_phase q) w l v last c (bound s q)) (sym b)
@@ -210,7 +252,7 @@ binds_order w l v last c s named (Some (ordered.Form (Select name))) p b order h
   | inr is ↦ binds_select w l v last c s named name p is order h
 ]
 binds_order w l v last c s named (Some (ordered.Form (Insert name tuples))) p b order h = binds_insert w l v last c s named name tuples p b order h
-binds_order w l v last c s named (Some (ordered.Form (CreateTable name columns))) p b order h = absurd b
+binds_order w l v last c s named (Some (ordered.Form (CreateTable name columns))) p b order h = binds_create w l v last c s named name columns p b order h
 
 -- BOUND
 pub binds : (st : State) (last k : ℕ) (r : Session) (p : Plan) → k < length st.ss → r ≡ get_or st.ss k r → r.phase ≡ Preparing → IsBound st.named r.order p → Holds st last
@@ -235,4 +277,5 @@ bound_ends plan.Nothing = (omega arith, refl)
 bound_ends (plan.Command d) = (omega arith, refl)
 bound_ends (plan.Select scan) = (omega arith, refl)
 bound_ends (plan.Insert fill) = (omega arith, refl)
+bound_ends (plan.Create make) = (omega arith, refl)
 bound_ends (plan.Refuse why) = (omega arith, refl)

@@ -1,6 +1,7 @@
 -- A connection's own part is stable under the steps of the others: once for all phases.
 use Rattle.std.proofs.Common.{◌≡◌, ◌≢◌, ℕ, ◌<◌, ◌≤◌, List, [], ◌∷◌, ◌++◌, length, true, sym, ◌∙◌, ap, subst, arith, inl, inr, Option, Some, None}
 use Rattle.std.specs.Prelude.{map}
+use Rattle.std.proofs.lemmas.Bool.{or_right}
 use Rattle.dby_types.specs.declared.number.RowId.{RowId}
 use Rattle.lock_modes.specs.declared.mode.Mode.{Mode}
 use Rattle.lock_modes.specs.declared.mode.Mode.TheVariants.{TS, TX}
@@ -16,9 +17,9 @@ use Rattle.journal_model.specs.Meaning.{is_long}
 use Rattle.session_model.specs.Orders.{order_of}
 use Rattle.session_model.specs.World.{World, Txn, Conn, seen}
 use Rattle.session_model.specs.Legal.{HasEvidence, dictionary_mode}
-use Rattle.session_model.specs.Places.{Shared, Others, ReadsCatalog, locks_of, is_catalog}
+use Rattle.session_model.specs.Places.{Shared, Others, ReadsCatalog, WritesCatalog, locks_of, is_catalog}
 use Rattle.session_model.proofs.PlaceLemmas.{laid_over_same}
-use Rattle.session_model.proofs.FitLemmas.{evidence_same, defines_same}
+use Rattle.session_model.proofs.FitLemmas.{evidence_same, defines_same, other_way}
 use Rattle.session_engine.specs.declared.session.Phase.{Phase}
 use Rattle.session_engine.specs.declared.session.Phase.TheVariants.{Idle, Resting, Asking, Preparing, Claiming, Working, Refusing, Committing, Forcing, Acknowledging, Leaving}
 use Rattle.session_engine.specs.declared.session.Plan.{Plan}
@@ -28,9 +29,10 @@ use Rattle.session_engine.specs.declared.session.Where.{Where}
 use Rattle.session_engine.specs.declared.session.Where.TheVariants.{Lost, At, Ended}
 use Rattle.session_engine.specs.Scanning.{IsWhere}
 use Rattle.session_engine.specs.declared.session.Fill.{Fill}
+use Rattle.session_engine.specs.declared.session.Make.{Make}
 use Rattle.session_engine.specs.declared.session.Session.{Session}
 use Rattle.session_engine.proofs.ScanLemmas.{scanned_same}
-use Rattle.session_engine.specs.State.{IsStage, Reflects, Stands, HaveSlots, AreUsers, Busy, IsPromised, Runs, Asks, Prepares, Commands, Selects, Scans, Inserts, Fills, Waiting, Mirrors, Claims, IsShown, Refuses, Works, RefusesFor, PhaseHolds, SessionHolds, LockKept, Beside, txn_of}
+use Rattle.session_engine.specs.State.{IsStage, Reflects, Stands, HaveSlots, AreUsers, Busy, IsPromised, Runs, Asks, Prepares, Commands, Selects, Scans, Inserts, Fills, Bears, Plans, Waiting, Mirrors, Claims, IsShown, Refuses, Works, RefusesFor, PhaseHolds, SessionHolds, LockKept, Beside, txn_of}
 
 each_both : {X : Type 0} → (P R Q : X → Type 0) → ((x : X) → P x → R x → Q x) → (xs : List X) → Each P xs → Each R xs → Each Q xs
 each_both P R Q f [] h k = tt
@@ -38,6 +40,13 @@ each_both P R Q f (x ∷ xs) h k = (f x h.0 k.0, each_both P R Q f xs h.1 k.1)
 
 reads_kept : (t : ℕ) (w : World) (l : Lock) (w' : World) (l' : Lock) → Others t w (locks_of l.grants) w' (locks_of l'.grants) → ReadsCatalog (locks_of l.grants) t → ReadsCatalog (locks_of l'.grants) t
 reads_kept t w l w' l' o h = λ table rid c. o.reads table rid (h table rid c)
+
+writes_kept : (t : ℕ) (w : World) (l : Lock) (w' : World) (l' : Lock) → Others t w (locks_of l.grants) w' (locks_of l'.grants) → WritesCatalog (locks_of l.grants) t → WritesCatalog (locks_of l'.grants) t
+writes_kept t w l w' l' o h = λ table rid c. o.writes table rid (h table rid c)
+
+-- who has the catalog alone relies on it
+pub writer_reads : (t : ℕ) (l : Lock) → WritesCatalog (locks_of l.grants) t → ReadsCatalog (locks_of l.grants) t
+writer_reads t l h = λ table rid c. or_right _ _ (h table rid c)
 
 -- what a statement sees of the catalog stays, for who relies on it
 pub catalog_kept : (t : ℕ) (w : World) (l : Lock) (w' : World) (l' : Lock) → Others t w (locks_of l.grants) w' (locks_of l'.grants) → ReadsCatalog (locks_of l.grants) t
@@ -71,6 +80,7 @@ prepares_kept w l v w' l' v' c s b more h = let e = b.others.txn in record {
   unchanged = subst (λ (x : Txn). x.changes ≡ x.begun) (sym e) h.unchanged;
   order = h.order ∙ ap (λ (x : Txn). order_of x.text) (sym e);
   catalog = reads_kept (txn_of s) w l w' l' b.others h.catalog;
+  alone = λ c. writes_kept (txn_of s) w l w' l' b.others (h.alone c);
 }
 
 commands_kept : (w : World) (l : Lock) (v : View) (w' : World) (l' : Lock) (v' : View) (c : ℕ) (s : Session) (d : Command) → Beside s.txn c w l v w' l' v' → w.count ≤ w'.count → Commands w l v s d → Commands w' l' v' s d
@@ -197,11 +207,33 @@ waiting_kept w l v w' l' v' c s fill b more h = record {
   no_room = h.no_room;
 }
 
+bears_kept : (w : World) (l : Lock) (v : View) (w' : World) (l' : Lock) (v' : View) (c : ℕ) (s : Session) (make : Make) → Beside s.txn c w l v w' l' v' → w.count ≤ w'.count → Bears w l s make → Bears w' l' s make
+bears_kept w l v w' l' v' c s make b more h = let e = b.others.txn in record {
+  runs = runs_kept w w' s e more h.runs;
+  order = ap (λ (x : Txn). order_of x.text) e ∙ h.order;
+  alone = writes_kept (txn_of s) w l w' l' b.others h.alone;
+  fresh = λ d defined. h.fresh d (defines_same (seen w' (txn_of s)) (seen w (txn_of s)) (other_way (seen w (txn_of s)) (seen w' (txn_of s)) (catalog_kept (txn_of s) w l w' l' b.others (writer_reads (txn_of s) l h.alone))) d defined);
+  distinct = h.distinct;
+  few = h.few;
+}
+
+plans_kept : (w : World) (l : Lock) (v : View) (w' : World) (l' : Lock) (v' : View) (c : ℕ) (s : Session) (make : Make) → Beside s.txn c w l v w' l' v' → w.count ≤ w'.count → Plans w l v s make → Plans w' l' v' s make
+unfolding bears_kept
+plans_kept w l v w' l' v' c s make b more h = record {
+  bears = bears_kept w l v w' l' v' c s make b more h.bears;
+  marked = ap (λ i. length (changes_in i)) b.changes ∙ h.marked;
+  unchanged = subst (λ (x : Txn). x.changes ≡ x.begun) (sym b.others.txn) h.unchanged;
+  unmade = h.unmade;
+  none = h.none;
+  no_room = h.no_room;
+}
+
 claims_kept : (p : Plan) (w : World) (l : Lock) (v : View) (w' : World) (l' : Lock) (v' : View) (c : ℕ) (s : Session) → Beside s.txn c w l v w' l' v' → w.count ≤ w'.count → Claims w l v s p → Claims w' l' v' s p
 claims_kept plan.Nothing w l v w' l' v' c s b more h = h
 claims_kept (plan.Command d) w l v w' l' v' c s b more h = h
 claims_kept (plan.Select scan) w l v w' l' v' c s b more h = (selects_kept w l v w' l' v' c s scan b more h.0, h.1, λ q. promised_kept l l' s (Table scan.number) TS b.locks (h.2 q))
 claims_kept (plan.Insert fill) w l v w' l' v' c s b more h = (waiting_kept w l v w' l' v' c s fill b more h.0, λ q. promised_kept l l' s (Table fill.number) TX b.locks (h.1 q))
+claims_kept (plan.Create make) w l v w' l' v' c s b more h = h
 claims_kept (plan.Refuse why) w l v w' l' v' c s b more h = h
 
 works_kept : (p : Plan) (w : World) (l : Lock) (v : View) (w' : World) (l' : Lock) (v' : View) (c : ℕ) (s : Session) → Beside s.txn c w l v w' l' v' → w.count ≤ w'.count → Works w l v c s p → Works w' l' v' c s p
@@ -209,6 +241,7 @@ works_kept plan.Nothing w l v w' l' v' c s b more h = h
 works_kept (plan.Command d) w l v w' l' v' c s b more h = commands_kept w l v w' l' v' c s d b more h
 works_kept (plan.Select scan) w l v w' l' v' c s b more h = scans_kept w l v w' l' v' c s scan b more h
 works_kept (plan.Insert fill) w l v w' l' v' c s b more h = fills_kept w l v w' l' v' c s fill b more h
+works_kept (plan.Create make) w l v w' l' v' c s b more h = plans_kept w l v w' l' v' c s make b more h
 works_kept (plan.Refuse why) w l v w' l' v' c s b more h = h
 
 refusing_kept : (p : Plan) (w : World) (l : Lock) (v : View) (w' : World) (l' : Lock) (v' : View) (c : ℕ) (s : Session) → Beside s.txn c w l v w' l' v' → RefusesFor w l v s p → RefusesFor w' l' v' s p
@@ -216,6 +249,7 @@ refusing_kept plan.Nothing w l v w' l' v' c s b h = h
 refusing_kept (plan.Command d) w l v w' l' v' c s b h = h
 refusing_kept (plan.Select scan) w l v w' l' v' c s b h = h
 refusing_kept (plan.Insert fill) w l v w' l' v' c s b h = h
+refusing_kept (plan.Create make) w l v w' l' v' c s b h = h
 refusing_kept (plan.Refuse why) w l v w' l' v' c s b h = refuses_kept w l v w' l' v' c s why b h
 
 -- the places that a transaction changed keep their rows, since it relies on them and on the catalog

@@ -340,6 +340,7 @@ refusal_in plan.Nothing w l v r e h = absurd h
 refusal_in (plan.Command c) w l v r e h = absurd h
 refusal_in (plan.Select scan) w l v r e h = absurd h
 refusal_in (plan.Insert fill) w l v r e h = absurd h
+refusal_in (plan.Create make) w l v r e h = absurd h
 refusal_in (plan.Refuse why) w l v r e h = record { why = why; planned = e; refuses = h }
 
 pub refusal_of : (st : State) (last k : ℕ) (r : Session) → k < length st.ss → r ≡ get_or st.ss k r → r.phase ≡ Refusing → Holds st last → RefusesWith (world_of st.es) st.lock st.view r

@@ -38,7 +38,7 @@ use Rattle.session_engine.specs.declared.session.Session.{Session}
 use Rattle.session_engine.specs.Asking.{wanted, claimed, behind, in_want}
 use Rattle.session_engine.specs.Scanning.{IsScanned, IsUnread, IsWhere}
 use Rattle.session_engine.specs.State.{State, Holds, SessionHolds, Busy, Asks, Selects, Waiting, Claims, Works, IsPromised, IsUnchanged, IsMarked, IsOpened, IsStage, Mirrors, PhaseHolds, IsShown, ends_in, opens, world_of, txn_of}
-use Rattle.session_engine.proofs.AskLemmas.{granted, queued, relies_on_catalog}
+use Rattle.session_engine.proofs.AskLemmas.{granted, queued, relies_on_catalog, writes_catalog}
 use Rattle.session_engine.proofs.BeginLemmas.{absent}
 use Rattle.session_engine.proofs.EventLemmas.{has_granted}
 use Rattle.session_engine.proofs.MoveLemmas.{moved, store_holds, described_same}
@@ -157,7 +157,7 @@ asking_wants w l v last c s is busy opened h = record {
         busy_on w l l' v v last c s (record s { queued = false; phase = Preparing }) refl refl (λ q. idle) runs busy,
         refl,
         opened,
-        record { runs = record { first = h.runs.first; since = h.runs.since; short = h.runs.short }; marked = h.marked; unchanged = h.unchanged; order = h.order; catalog = relies_on_catalog l' s.txn s.order has },
+        record { runs = record { first = h.runs.first; since = h.runs.since; short = h.runs.short }; marked = h.marked; unchanged = h.unchanged; order = h.order; catalog = relies_on_catalog l' s.txn s.order has; alone = λ c. writes_catalog l' s.txn s.order c has },
       );
   waits_on = λ l' v' k content waits.
       subst (λ p. PhaseHolds p w l' v' last c (record s { queued = true })) (sym is) (
@@ -333,6 +333,7 @@ claimed_wants (plan.Insert fill) w l v last c s n m is planned busy opened h e =
     let name : Table fill.number ≡ n = ap (λ x. x.0) both in
     let mode : TX ≡ m = ap (λ x. x.1) both in
     subst (λ k. Wanting w l v last c s k m) name (subst (λ k. Wanting w l v last c s (Table fill.number) k) mode (filling_wants w l v last c s fill is planned busy opened h.0 h.1))
+claimed_wants (plan.Create make) w l v last c s n m is planned busy opened h e = absurd h
 claimed_wants (plan.Refuse why) w l v last c s n m is planned busy opened h e = absurd h
 
 wanting : (p : Phase) (w : World) (l : Lock) (v : View) (last c : ℕ) (s : Session) (n : LockName) (m : Mode) → s.phase ≡ p → PhaseHolds p w l v last c s → wanted p s.order s.plan ≡ Some (n, m) → Wanting w l v last c s n m

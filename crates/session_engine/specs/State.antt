@@ -21,10 +21,10 @@ use Rattle.store_api.specs.View.{View, live, changes_in}
 use Rattle.journal_model.specs.declared.journal.Entry.{Entry}
 use Rattle.sql_lexer.specs.Splitting.{spans_of}
 use Rattle.session_model.specs.declared.journal.Locked.{Locked}
-use Rattle.session_model.specs.Orders.{order_of, is_built}
+use Rattle.session_model.specs.Orders.{order_of, is_built, is_create}
 use Rattle.session_model.specs.World.{World, Txn, Stage, denied, seen, running, resting, committing, leaving, settled, opening, replay, no_txn, is_untold, is_returnable}
 use Rattle.session_model.specs.Legal.{IsLegal, Wants, HasEvidence, is_lasting, dictionary_mode}
-use Rattle.session_model.specs.Places.{Shared, Others, ReadsCatalog, locks_of, is_catalog}
+use Rattle.session_model.specs.Places.{Shared, Others, ReadsCatalog, WritesCatalog, locks_of, is_catalog}
 use Rattle.session_engine.specs.declared.session.Phase.{Phase}
 use Rattle.session_engine.specs.declared.session.Phase.TheVariants.{Idle, Resting, Asking, Preparing, Claiming, Working, Refusing, Committing, Forcing, Acknowledging, Leaving}
 use Rattle.session_engine.specs.declared.session.Session.{Session}
@@ -33,13 +33,15 @@ use Rattle.session_engine.specs.declared.session.Plan.TheVariants as plan
 use Rattle.sql_commands.specs.declared.command.Command.{Command}
 use Rattle.session_model.specs.declared.order.Order.TheVariants as ordered
 use Rattle.journal_model.specs.declared.journal.Refusal.{Refusal}
-use Rattle.journal_model.specs.Meaning.{is_long, Names, Suits, some_null}
+use Rattle.journal_model.specs.Catalog.{NoTable}
+use Rattle.journal_model.specs.Meaning.{is_long, Names, Suits, names_twice, some_null}
 use Rattle.journal_model.specs.Levels.{row_of}
 use Rattle.journal_model.specs.Legal.{written, row_put}
 use Rattle.dby_types.specs.declared.value.Value.{Value}
-use Rattle.sql_forms.specs.declared.form.Form.TheVariants.{Select, Insert}
+use Rattle.sql_forms.specs.declared.form.Form.TheVariants.{Select, Insert, CreateTable}
 use Rattle.session_engine.specs.declared.session.Scan.{Scan}
 use Rattle.session_engine.specs.declared.session.Fill.{Fill}
+use Rattle.session_engine.specs.declared.session.Make.{Make}
 use Rattle.session_engine.specs.Scanning.{IsScanned, IsUnread, IsWhere}
 use Rattle.session_engine.specs.Dictionary.{Named, Among, IsDictionary}
 
@@ -157,6 +159,8 @@ pub record Prepares (w : World) (l : Lock) (v : View) (s : Session) : Type 0 whe
   pub unchanged : IsUnchanged w s
   pub order : s.order ≡ order_of (w.txns (txn_of s)).text
   pub catalog : ReadsCatalog (locks_of l.grants) (txn_of s)
+  -- who makes a table has it alone
+  pub alone : is_create s.order ≡ true → WritesCatalog (locks_of l.grants) (txn_of s)
 
 -- a command: nothing is changed by it
 pub record Commands (w : World) (l : Lock) (v : View) (s : Session) (c : Command) : Type 0 where
@@ -232,6 +236,24 @@ pub record Waiting (w : World) (l : Lock) (v : View) (s : Session) (fill : Fill)
   pub all : reverse fill.rows.items ≡ inserts.tuples
   pub no_room : fill.has_room ≡ false
 
+-- A CREATE TABLE, bound: no table has its name, its columns have different names, and they are few
+pub record Bears (w : World) (l : Lock) (s : Session) (make : Make) : Type 0 where
+  pub runs : Runs w s
+  pub order : order_of (w.txns (txn_of s)).text ≡ Some (ordered.Form (CreateTable make.def.name make.def.columns))
+  pub alone : WritesCatalog (locks_of l.grants) (txn_of s)
+  pub fresh : NoTable (seen w (txn_of s)) make.def.name
+  pub distinct : names_twice make.def.columns ≡ false
+  pub few : length make.def.columns ≤ 64
+
+-- it has changed nothing
+pub record Plans (w : World) (l : Lock) (v : View) (s : Session) (make : Make) : Type 0 where
+  pub bears : Bears w l s make
+  pub marked : IsMarked v s
+  pub unchanged : IsUnchanged w s
+  pub unmade : make.made ≡ false
+  pub none : make.done ≡ 0
+  pub no_room : make.has_room ≡ false
+
 -- it asks for the table that it was bound to
 abbrev pub Claims : World → Lock → View → Session → Plan → Type 0
 Claims w l v s (plan.Select scan) = Selects w l v s scan × IsUnread scan × (s.queued ≡ true → IsPromised l s (Table scan.number) TS)
@@ -243,6 +265,7 @@ abbrev pub Works : World → Lock → View → ℕ → Session → Plan → Type
 Works w l v c s (plan.Command d) = Commands w l v s d
 Works w l v c s (plan.Select scan) = Scans w l v s scan
 Works w l v c s (plan.Insert fill) = Fills w l v c s fill
+Works w l v c s (plan.Create make) = Plans w l v s make
 Works w l v c s _ = ⊥
 
 abbrev pub RefusesFor : World → Lock → View → Session → Plan → Type 0

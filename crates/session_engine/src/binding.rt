@@ -1,12 +1,13 @@
 //! What a statement is bound to do, over the dictionary.
 
-ghost use Rattle.std.specs.Prelude.{◌≡◌, [], false, IfOk, MatchResult};
-ghost use Rattle.session_engine.specs.Binding.{BindsCommand, BindsSelect, BindsInsert, IsBound, bound_phase};
-ghost use Rattle.session_model.specs.Orders.{is_create};
+ghost use Rattle.std.specs.Prelude.{◌≡◌, [], IfOk, MatchResult};
+ghost use Rattle.session_engine.specs.Binding.{BindsCommand, BindsSelect, BindsInsert, BindsCreate, IsBound, bound_phase};
 
+use crate::creating::has_names_twice;
 use crate::dictionary::{Tables, find, names_of};
 use crate::fit::{all_suiting, some_refused_null};
-use crate::session::{Fill, Phase, Plan, Scan, Where};
+use crate::session::{Fill, Make, Phase, Plan, Scan, Where};
+use dby_types::definition::{Columns, TableDef};
 use dby_types::number::Level;
 use dby_types::seq::Seq;
 use dby_types::state::SqlState;
@@ -83,17 +84,32 @@ pub(crate) fn bind_insert(alloc: Global, tables: &Tables, name: &Name, tuples: R
     })
 }
 
-/// Whether a statement makes a table.
-pub(crate) fn is_create(order: &Option<Order>) -> bool
-    ensures { result ≡ is_create order.now }
+/// The most columns of a table.
+const MOST_COLUMNS: usize = 64;
+
+/// A CREATE TABLE of these columns.
+fn bind_create(alloc: Global, tables: &Tables, name: Name, columns: Columns) -> Plan
+    ensures { BindsCreate tables.now.entries name columns result }
 {
-    matches!(
-        order,
-        Some(Order::Form(Form::CreateTable {
-            name: _name,
-            columns: _columns,
-        }))
-    )
+    if let Some(_) = find(tables, &name) {
+        return refused(alloc, SqlState::NotBuilt);
+    }
+    if has_names_twice(columns.as_slice()) {
+        return refused(alloc, SqlState::NotBuilt);
+    }
+    if columns.len() > MOST_COLUMNS {
+        return refused(alloc, SqlState::NotBuilt);
+    }
+    Plan::Create(Make {
+        def: TableDef {
+            number: 0,
+            name,
+            columns,
+        },
+        made: false,
+        done: 0,
+        has_room: false,
+    })
 }
 
 /// Want of memory is a refusal.
@@ -106,9 +122,8 @@ fn or_memory(bound: Result<Plan, AllocError>) -> Plan
     }
 }
 
-/// What a statement that makes no table is bound to do. Want of memory is a refusal.
+/// What a statement is bound to do. Want of memory is a refusal.
 pub(crate) fn bind(alloc: Global, tables: &Tables, order: Option<Order>) -> Plan
-    requires { is_create order ≡ false }
     ensures { IsBound tables.now.entries order result }
 {
     match order {
@@ -117,7 +132,10 @@ pub(crate) fn bind(alloc: Global, tables: &Tables, order: Option<Order>) -> Plan
         Some(Order::Form(Form::Insert { table, tuples })) => bind_insert(
             alloc, tables, &table, tuples,
         ),
-        _ => refused(alloc, SqlState::Syntax { at: 0 }),
+        Some(Order::Form(Form::CreateTable { name, columns })) => bind_create(
+            alloc, tables, name, columns,
+        ),
+        None => refused(alloc, SqlState::Syntax { at: 0 }),
     }
 }
 
@@ -126,7 +144,7 @@ pub(crate) fn bound_phase(plan: &Plan) -> Phase
     ensures { result ≡ bound_phase plan.now }
 {
     match plan {
-        Plan::Command(_) => Phase::Working,
+        Plan::Command(_) | Plan::Create(_) => Phase::Working,
         Plan::Select(_) | Plan::Insert(_) => Phase::Claiming,
         _ => Phase::Refusing,
     }

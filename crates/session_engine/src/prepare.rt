@@ -3,7 +3,7 @@
 ghost use Rattle.std.specs.Prelude.{◌≡◌};
 ghost use Rattle.session_engine.specs.Stepped.{Grows, HasStopped, NotEnded, stop_after};
 
-use crate::binding::{bind, bound_phase, is_create};
+use crate::binding::{bind, bound_phase};
 use crate::engine::Engine;
 use crate::follows::ends;
 use crate::session::Phase;
@@ -12,7 +12,7 @@ use std::mem;
 use store_api::store::RowStore;
 
 impl<S: RowStore> Engine<S> {
-    /// A statement is bound over the dictionary, which its transaction shares. One that makes a table has no step of its own yet.
+    /// A statement is bound over the dictionary, which its transaction shares.
     #[tactic(auto, using(crate::proofs::KeptLemmas::kept_scripts, crate::proofs::KeptLemmas::grows_none))]
     pub(crate) fn prepare(&mut self, c: usize) -> Step
         ensures same { self.new.0 ≡ self.old.0 }
@@ -28,9 +28,6 @@ impl<S: RowStore> Engine<S> {
         let Phase::Preparing = session.phase else {
             return ASTRAY;
         };
-        if is_create(&session.order) {
-            return ASTRAY;
-        }
         let order = mem::replace(&mut session.order, None);
         session.plan = bind(self.alloc, &self.tables, order);
         session.phase = bound_phase(&session.plan);

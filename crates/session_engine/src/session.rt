@@ -1,6 +1,7 @@
 //! What a connection is doing.
 
 use dby_types::answer::Component;
+use dby_types::definition::TableDef;
 use dby_types::number::{Level, RowId, TxnNo};
 use dby_types::seq::Seq;
 use dby_types::value::{Names, Row, Txt};
@@ -67,6 +68,15 @@ pub struct Fill {
     pub has_room: bool,
 }
 
+/// A CREATE TABLE: the table, whose number counts once its container stands, and how many of its catalog rows are put.
+#[derive(Debug, Drop)]
+pub struct Make {
+    pub def: TableDef,
+    pub made: bool,
+    pub done: usize,
+    pub has_room: bool,
+}
+
 /// What a statement was bound to do.
 #[derive(Debug, Drop)]
 pub enum Plan {
@@ -74,6 +84,7 @@ pub enum Plan {
     Command(Command),
     Select(Scan),
     Insert(Fill),
+    Create(Make),
     Refuse(Refusal),
 }
 
