@@ -17,7 +17,7 @@ use Rattle.session_model.specs.Legal.{Begins}
 use Rattle.sql_lexer.specs.Splitting.{statements_of, spans_of}
 use Rattle.sql_ast.specs.declared.statement.Statement.TheVariants.{Unread}
 use Rattle.table_model.specs.Tables.{Each}
-use Rattle.store_api.specs.View.{View, Content, live, at_number}
+use Rattle.store_api.specs.View.{View, Content, live, at_number, changes_in}
 use Rattle.journal_model.specs.declared.journal.Entry.TheVariants as entry
 use Rattle.journal_model.specs.Legal.{statement_of}
 use Rattle.journal_model.proofs.BaseLemmas.{at_same, at_other}
@@ -26,7 +26,7 @@ use Rattle.session_model.specs.Places.{locks_of}
 use Rattle.session_model.proofs.EntryLemmas.{quiet_others, started_kept}
 use Rattle.session_engine.specs.declared.session.Phase.TheVariants.{Idle, Resting}
 use Rattle.session_engine.specs.declared.session.Session.{Session}
-use Rattle.session_engine.specs.State.{State, Holds, SessionHolds, Busy, Waits, Reflects, PhaseHolds, IsStage, HaveSlots, AreUsers, scripts_of, world_of, txn_of}
+use Rattle.session_engine.specs.State.{State, Holds, SessionHolds, Busy, Waits, Reflects, PhaseHolds, IsStage, HaveSlots, AreUsers, MakesAlone, has_made, scripts_of, world_of, txn_of}
 use Rattle.session_engine.proofs.QueueLemmas.{asks_of, find_later}
 use Rattle.session_engine.proofs.MoveLemmas.{store_holds, entered, described_same}
 use Rattle.session_engine.proofs.StepLemmas.{own_session, phase_at, stepping}
@@ -97,14 +97,14 @@ left_alone t v v' content actors limit = record {
 pub begins : (st : State) (last k : ℕ) (r s' : Session) (t : TxnNo) (c : ConnNo) (text : List ℕ) (v' : View)
     → k < length st.ss → r ≡ get_or st.ss k r → r.phase ≡ Idle → r.closed ≡ false → c.0 ≡ k + 1 → slice_get (statements_of r.script) r.begun ≡ Some text → last < t.0
     → s'.txn ≡ t → s'.queued ≡ false → s'.made.items ≡ [] → s'.begun ≡ r.begun + 1 → s'.level ≡ r.level → s'.automatic ≡ r.automatic → s'.script ≡ r.script → s'.spans ≡ r.spans
-    → Reflects s'.opened (v'.content.changes t.0) [] → OpensOnly t.0 st.view v'
+    → Reflects s'.opened (v'.content.changes t.0) [] → has_made (changes_in (v'.content.changes t.0)) ≡ false → OpensOnly t.0 st.view v'
     → IsStage s'.phase running
     → ((apply (world_of st.es) (entry.Started t c r.level (Unread text))).txns t.0 ≡ begun_txn no_txn c.0 r.level text (world_of st.es).count true
     → Busy (apply (world_of st.es) (entry.Started t c r.level (Unread text))) st.lock v' t.0 (k + 1) s'
     → PhaseHolds s'.phase (apply (world_of st.es) (entry.Started t c r.level (Unread text))) st.lock v' t.0 (k + 1) s')
     → Holds st last
     → Holds (record { es = st.es ++ entry.Started t c r.level (Unread text) ∷ []; ls = st.ls; lock = st.lock; ss = set st.ss k s'; view = v'; named = st.named }) t.0
-begins st last k r s' t c text v' lt at is still_open place next above txn queued made begun level automatic script spans reflects store stage phase ok =
+begins st last k r s' t c text v' lt at is still_open place next above txn queued made begun level automatic script spans reflects unmade store stage phase ok =
     let w = world_of st.es in
     let l = locks_of st.lock.grants in
     let e = entry.Started t c r.level (Unread text) in
@@ -128,6 +128,7 @@ begins st last k r s' t c text v' lt at is still_open place next above txn queue
       reflects = subst (λ (y : Txn). Reflects s'.opened (v'.content.changes t.0) y.changes) (sym x) reflects;
       slots = subst (λ (y : Txn). HaveSlots v' y.changes) (sym x) tt;
       users = subst (λ (y : Txn). AreUsers y.changes) (sym x) tt;
+      containers = inl unmade;
       idle = λ q. waits;
     }) in
     let own : SessionHolds w' st.lock v' t.0 (k + 1) s' = record {
@@ -182,7 +183,7 @@ begins st last k r s' t c text v' lt at is still_open place next above txn queue
       given = subst (λ m. Each (λ n. n < m) w.given) (sym store.next) ok.given;
       stored = λ b q. ap live (store.heaps b q) ∙ ok.stored b q;
       dictionary = ok.dictionary;
-      described = described_same st.view v' st.named store.columns ok.described;
+      described = described_same st.view v' st.named store.columns store.next ok.described;
     }) ok
 
 -- IN THE OPEN ONE
@@ -221,6 +222,7 @@ resumes st last k r s' c text lt at is still_open place next txn opened queued m
       reflects = subst (λ b. Reflects b (st.view.content.changes a) (w'.txns a).changes) (sym opened) (subst (λ (y : Txn). Reflects true (st.view.content.changes a) y.changes) (sym x) reflects);
       slots = subst (λ (y : Txn). HaveSlots st.view y.changes) (sym x) busy.slots;
       users = subst (λ (y : Txn). AreUsers y.changes) (sym x) busy.users;
+      containers = subst (λ (y : Txn). MakesAlone w.committed st.lock a (changes_in (st.view.content.changes a)) y.changes) (sym x) busy.containers;
       idle = λ q. busy.idle p.1;
     }) in
     let own : SessionHolds w' st.lock st.view last (k + 1) s' = record {

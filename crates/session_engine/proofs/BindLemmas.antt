@@ -10,7 +10,7 @@ use Rattle.dby_types.specs.declared.state.SqlState.{SqlState}
 use Rattle.dby_types.specs.declared.state.SqlState.TheVariants as state
 use Rattle.dby_types.specs.declared.value.Value.{Value}
 use Rattle.lock_modes.specs.Lock.{Lock}
-use Rattle.store_api.specs.View.{View}
+use Rattle.store_api.specs.View.{View, changes_in}
 use Rattle.table_model.specs.Tables.{Tables, Each, laid_over}
 use Rattle.journal_model.specs.Catalog.{NoTable}
 use Rattle.journal_model.specs.Meaning.{is_long, Names, Suits, names_twice}
@@ -32,8 +32,9 @@ use Rattle.session_engine.specs.declared.session.Plan.TheVariants as plan
 use Rattle.session_engine.specs.declared.session.Session.{Session}
 use Rattle.session_engine.specs.Binding.{IsBound, BindsSelect, BindsInsert, BindsCreate, bound_phase}
 use Rattle.session_engine.specs.Dictionary.{Named, Among, IsThere, IsAbsent, IsDictionary, definition_of, named_of}
-use Rattle.session_engine.specs.State.{State, Holds, Busy, Prepares, IsOpened, IsShown, IsStage, Reflects, PhaseHolds, ends_in, opens, world_of, txn_of}
+use Rattle.session_engine.specs.State.{Mirrors, State, Holds, Busy, Prepares, IsOpened, IsShown, IsStage, Reflects, PhaseHolds, ends_in, opens, world_of, txn_of}
 use Rattle.session_engine.proofs.EndLemmas.{dictionary_same}
+use Rattle.session_engine.proofs.StartLemmas.{mirrored}
 use Rattle.session_engine.proofs.StepLemmas.{own_session, phase_at}
 use Rattle.session_engine.proofs.TellLemmas.{busy_at}
 use Rattle.session_engine.proofs.WantLemmas.{own_move, refusing_unchanged}
@@ -84,6 +85,7 @@ busy_bound w l v last c s s' txn opened queued made stage b = busy_at w l v last
   reflects = subst (λ o. Reflects o (v.content.changes (txn_of s)) (w.txns (txn_of s)).changes) (sym opened) b.reflects;
   slots = b.slots;
   users = b.users;
+  containers = b.containers;
   idle = λ q. b.idle (sym queued ∙ q);
 })
 
@@ -234,9 +236,18 @@ binds_create w l v last c s named name columns (plan.Create make) b order h = (
       distinct = ap names_twice b.3.columns_are ∙ b.1;
       few = subst (λ (cs : List ColumnDef). length cs ≤ 64) (sym b.3.columns_are) b.2;
     };
-    marked = h.prepares.marked;
     unchanged = h.prepares.unchanged;
-    unmade = b.3.unmade;
+    stands = record {
+      own_items = [];
+      base = changes_in (v.content.changes (txn_of s));
+      own = [];
+      items_are = refl;
+      length_is = h.prepares.marked;
+      changes_are = h.prepares.unchanged;
+      mirrors_own = tt;
+      mirrors_base = subst (Mirrors (changes_in (v.content.changes (txn_of s)))) h.prepares.unchanged (mirrored s.opened (v.content.changes (txn_of s)) (w.txns (txn_of s)).changes h.opened h.busy.reflects);
+    };
+    container = λ made. absurd (both_ways make.made b.3.unmade made);
     none = b.3.none;
     no_room = b.3.no_room;
   },

@@ -39,7 +39,7 @@ use Rattle.sql_lexer.specs.Splitting.{spans_of}
 use Rattle.session_engine.specs.declared.session.Session.{Session}
 use Rattle.session_engine.specs.Noted.{noted}
 use Rattle.session_engine.specs.Dictionary.{Named, IsDictionary, definition_of}
-use Rattle.session_engine.specs.State.{State, Holds, SessionHolds, Busy, Refuses, RefusesFor, Stands, Mirrors, Reflects, PhaseHolds, IsStage, WaitsNot, HaveSlots, AreUsers, world_of, txn_of}
+use Rattle.session_engine.specs.State.{MakesAlone, State, Holds, SessionHolds, Busy, Refuses, RefusesFor, Stands, Mirrors, Reflects, PhaseHolds, IsStage, WaitsNot, HaveSlots, AreUsers, world_of, txn_of}
 use Rattle.session_engine.proofs.MoveLemmas.{store_holds, entered, moved, described_same}
 use Rattle.session_engine.proofs.EventLemmas.{gone, served}
 use Rattle.session_engine.proofs.StepLemmas.{own_session, phase_at, asks_nothing, stepping}
@@ -70,7 +70,7 @@ stands_less mark table rid before rest x x' h more changes begun = go h.own_item
   where
     go : (oi : List Item) (own : List Made) → (Changed table rid before ∷ rest) ≡ oi ++ h.base → x.changes ≡ own ++ x.begun → Mirrors oi own → Stands mark rest x'
     go [] own e c m = absurd (more (ap length e ∙ h.length_is))
-    go (Created k ∷ oi) own e c m = absurd m
+    go (Created k ∷ oi) own e c m = cc
     go (Discarded k ∷ oi) own e c m = absurd m
     go (Changed t r b ∷ oi) [] e c m = absurd m
     go (Changed t r b ∷ oi) (o ∷ own) e c m = record {
@@ -226,6 +226,9 @@ undoes st last k r made v' did table rid before rest lt at busy quiet pop return
       slots = subst (λ (y : Txn). HaveSlots v' y.changes) (sym x) (subst (λ ms. HaveSlots v' (rest_of ms)) (sym top) (each_slots st.view v' n.older (λ b q had. λ none.
           slot_stays st.view.content.heaps table rid before b q had (sym (ap (λ (d : Content). d.heaps b q) content) ∙ none)) slots.1));
       users = subst (λ (y : Txn). AreUsers y.changes) (sym x) (subst (λ ms. AreUsers (rest_of ms)) (sym top) users.1);
+      containers = subst (λ (y : Txn). MakesAlone w.committed st.lock a (changes_in (v'.content.changes a)) y.changes) (sym x)
+          (subst (λ i. MakesAlone w.committed st.lock a (changes_in i) (rest_of (w.txns a).changes)) (sym changed)
+          (subst (λ i. MakesAlone w.committed st.lock a (changes_in i) (w.txns a).changes) items busy.containers));
       idle = busy.idle;
     } in
     let own : SessionHolds w' st.lock v' last (k + 1) s' = record {
@@ -252,7 +255,7 @@ undoes st last k r made v' did table rid before rest lt at busy quiet pop return
     (λ b q. ap (λ (d : Content). live (d.heaps b q)) content ∙ live_back st.view.content.heaps table rid before n.made.change.old n.old_is there b q w.current (ok.stored b q) ∙ ap (λ (f : Tables). f b q) (sym current))
     (dictionary_same w.current w'.current st.named (λ b q c. sym (ap (λ (f : Tables). f b q) current
     ∙ put_elsewhere w.current table rid n.made.change.old b q (elsewhere table rid b q (λ same row. both_ways _ user (subst (λ y. is_catalog y ≡ true) same c))))) ok.dictionary)
-    (described_same st.view v' st.named (λ n. ap (λ (d : Content). d.columns n) content) ok.described)) ok
+    (described_same st.view v' st.named (λ n. ap (λ (d : Content). d.columns n) content) (ap (λ (d : Content). d.next_container) content) ok.described)) ok
 
 -- .. of a refused statement
 pub undoes_statement : (st : State) (last k : ℕ) (r : Session) (made : Vec ℕ Global) (v' : View) (why : Refusal) (did table : ℕ) (rid : RowId) (before : Option Slot) (rest : List Item)
@@ -376,7 +379,7 @@ rolled_back st last k r closed made order planned v' lt at is shut empty none en
     (λ live. or_from _ _ (ap (λ x. not (is_leaving x)) (p.2 (shut live))) (at_conn w a (k + 1) busy.conn (λ y. y.closed) ∙ mine.closed (shut live))) refl mine.spans empty)
     (inr ends.gone) refl (omega arith) ok.last_is
     (subst (λ n. Each (λ m. m < n) w.given) (sym ends.containers) ok.given)
-    (λ b q. ap live (ends.heaps b q) ∙ ok.stored b q) ok.dictionary (described_same st.view v' st.named ends.columns ok.described)) ok
+    (λ b q. ap live (ends.heaps b q) ∙ ok.stored b q) ok.dictionary (described_same st.view v' st.named ends.columns ends.containers ok.described)) ok
 
 -- .. by an acknowledged commit
 pub acknowledged : (st : State) (last k : ℕ) (r : Session) (made : Vec ℕ Global) (order : Option Order) (planned : Plan)
@@ -504,7 +507,7 @@ own_pages st last k r v' lt at busy quiet content actors limit phase ok =
     (record { begun = mine.begun; level = mine.level; automatic = mine.automatic; closed = mine.closed; spans = mine.spans; phase = phase })
     (inl refl) refl (omega arith) ok.last_is
     (subst (λ (x : Content). Each (λ n. n < x.next_container) w.given) (sym content) ok.given)
-    (λ table rid. ap (λ (x : Content). live (x.heaps table rid)) content ∙ ok.stored table rid) ok.dictionary (described_same st.view v' st.named (λ n. ap (λ (x : Content). x.columns n) content) ok.described)) ok
+    (λ table rid. ap (λ (x : Content). live (x.heaps table rid)) content ∙ ok.stored table rid) ok.dictionary (described_same st.view v' st.named (λ n. ap (λ (x : Content). x.columns n) content) (ap (λ (d : Content). d.next_container) content) ok.described)) ok
 
 pub busy_pages : (w : World) (l : Lock) (v v' : View) (last c : ℕ) (r : Session) → v'.content ≡ v.content → Busy w l v last c r → Busy w l v' last c r
 busy_pages w l v v' last c r e h = record {
@@ -517,6 +520,7 @@ busy_pages w l v v' last c r e h = record {
   reflects = subst (λ (d : Content). Reflects r.opened (d.changes (txn_of r)) (w.txns (txn_of r)).changes) (sym e) h.reflects;
   slots = subst (λ (d : Content). Each (λ m. d.heaps m.change.table m.change.rid ≢ None) (w.txns (txn_of r)).changes) (sym e) h.slots;
   users = h.users;
+  containers = subst (λ (d : Content). MakesAlone w.committed l (txn_of r) (changes_in (d.changes (txn_of r))) (w.txns (txn_of r)).changes) (sym e) h.containers;
   idle = h.idle;
 }
 
@@ -599,6 +603,7 @@ gives_up st last k r lt at is ok =
           reflects = busy.reflects;
           slots = busy.slots;
           users = busy.users;
+          containers = busy.containers;
           idle = busy.idle;
         },
         p.1,

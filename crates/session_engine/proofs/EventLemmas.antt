@@ -71,7 +71,7 @@ evented st last e ss' v' place proper due shared alone waits scripts each conten
   holders = holders;
   few = few;
   dictionary = ok.dictionary;
-  described = λ x a. ap (λ (d : Content). d.columns x.1.number) content ∙ ok.described x a;
+  described = λ x a. (ap (λ (d : Content). d.columns x.1.number) content ∙ (ok.described x a).0, subst (λ (d : Content). x.1.number < d.next_container) (sym content) (ok.described x a).1);
 }
 
 -- WHAT AN EVENT LEAVES TO OTHERS

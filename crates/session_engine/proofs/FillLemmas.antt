@@ -82,13 +82,13 @@ fill_columns st last k r fill h =
     let w = world_of st.es in
     let s = (fill_at st last k r fill h).3.inserts in
     let defined = defines_same (seen w (txn_of r)) w.current (fill_current st last k r fill h) s.suits.target.def s.suits.target.defined in
-    ap st.view.content.columns (sym s.number) ∙ h.holds.described (named_of s.suits.target.def) (h.holds.dictionary.only s.suits.target.def defined)
+    ap st.view.content.columns (sym s.number) ∙ (h.holds.described (named_of s.suits.target.def) (h.holds.dictionary.only s.suits.target.def defined)).0
 
 pub fill_described : (st : State) (last k : ℕ) (r : Session) (fill : Fill) → Filling st last k r fill → st.view.content.columns fill.number ≢ None
 fill_described st last k r fill h none = (let e : None ≡ Some (fill_at st last k r fill h).3.inserts.suits.target.def.columns = sym none ∙ fill_columns st last k r fill h in cc)
 
 -- its transaction is open in the store
-open_there : (o : Bool) (items : Option (List Item)) (ms : List Made) → o ≡ true → Reflects o items ms → items ≢ None
+pub open_there : (o : Bool) (items : Option (List Item)) (ms : List Made) → o ≡ true → Reflects o items ms → items ≢ None
 open_there true items ms e h none = (let c : None ≡ Some h.0 = sym none ∙ h.1 in cc)
 open_there false items ms e h none = both_ways false refl e
 

@@ -25,3 +25,5 @@ pub mod PutLemmas
 pub mod InsertLemmas
 pub mod KeptLemmas
 pub mod RunLemmas
+pub mod ContainerLemmas
+pub mod MakeLemmas

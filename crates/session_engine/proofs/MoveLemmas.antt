@@ -111,8 +111,8 @@ pins_hold w l s = record {
 }
 
 -- the tables stay described, where no column list changes
-pub described_same : (v v' : View) (named : List Named) → ((n : ℕ) → v'.content.columns n ≡ v.content.columns n) → AreDescribed v named → AreDescribed v' named
-described_same v v' named same h = λ e a. same e.1.number ∙ h e a
+pub described_same : (v v' : View) (named : List Named) → ((n : ℕ) → v'.content.columns n ≡ v.content.columns n) → v'.content.next_container ≡ v.content.next_container → AreDescribed v named → AreDescribed v' named
+described_same v v' named same next h = λ e a. (same e.1.number ∙ (h e a).0, subst (λ n. e.1.number < n) (sym next) (h e a).1)
 
 -- WHAT A STEP OWES: of transaction a, by the connection at place k, whose session becomes s'
 pub record Stepping (st : State) (last : ℕ) (w' : World) (a k : ℕ) (s' : Session) (v' : View) (last' : ℕ) : Type 0 where

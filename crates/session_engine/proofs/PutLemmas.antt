@@ -28,7 +28,7 @@ use Rattle.session_engine.specs.declared.session.Fill.{Fill}
 use Rattle.session_engine.specs.declared.session.Plan.TheVariants as plan
 use Rattle.session_engine.specs.declared.session.Session.{Session}
 use Rattle.session_engine.specs.Filling.{inserted}
-use Rattle.session_engine.specs.State.{State, Holds, SessionHolds, Busy, Fills, Reflects, Mirrors, HaveSlots, AreUsers, IsStage, PhaseHolds, world_of, txn_of}
+use Rattle.session_engine.specs.State.{MakesAlone, State, Holds, SessionHolds, Busy, Fills, Reflects, Mirrors, HaveSlots, AreUsers, IsStage, PhaseHolds, world_of, txn_of}
 use Rattle.session_engine.proofs.ColumnLemmas.{row_fits, fits_more}
 use Rattle.session_engine.proofs.EndLemmas.{heap_elsewhere, beside_place, dictionary_same}
 use Rattle.session_engine.proofs.FillLemmas.{Filling, fill_at, fill_catalog}
@@ -136,6 +136,8 @@ fill_puts st last k did r fill fill' made rid row v' h rest popped pushed here n
         each_stays st.view v' (w.txns a).changes (λ b q had gone. put_stays st.view.content.heaps n rid (slot_of row false) b q had (sym (ap (λ (d : Content). d.heaps b q) content) ∙ gone)) busy.slots,
       );
       users = subst (λ (y : Txn). AreUsers y.changes) (sym x) (f.inserts.user, busy.users);
+      containers = subst (λ (y : Txn). MakesAlone w.committed st.lock a (changes_in (v'.content.changes a)) y.changes) (sym x)
+          (subst (λ i. MakesAlone w.committed st.lock a i (m ∷ (w.txns a).changes)) (sym (ap (λ (d : Content). changes_in (d.changes a)) content ∙ ap changes_in (at_same st.view.content.changes a (Some (Changed n rid (st.view.content.heaps n rid) ∷ changes_in (st.view.content.changes a)))))) busy.containers);
       idle = busy.idle;
     } in
     let items : changes_in (v'.content.changes a) ≡ Changed n rid (st.view.content.heaps n rid) ∷ changes_in (st.view.content.changes a) =
@@ -211,4 +213,4 @@ fill_puts st last k did r fill fill' made rid row v' h rest popped pushed here n
     (subst (λ (d : Content). Each (λ c. c < d.next_container) (given_by n (Some row) ++ w.given)) (sym content) (subst (λ xs. Each (λ c. c < st.view.content.next_container) (xs ++ w.given)) (sym (no_number n row f.inserts.user)) ok.given))
     (λ b q. ap (λ (d : Content). live (d.heaps b q)) content ∙ live_put st.view.content.heaps n rid row w.current b q (ok.stored b q))
     (dictionary_same w.current w'.current st.named (λ b q c. sym (put_elsewhere w.current n rid (Some row) b q (elsewhere n rid b q (λ same y. both_ways _ f.inserts.user (subst (λ z. is_catalog z ≡ true) same c))))) ok.dictionary)
-    (described_same st.view v' st.named (λ b. ap (λ (d : Content). d.columns b) content) ok.described)) ok
+    (described_same st.view v' st.named (λ b. ap (λ (d : Content). d.columns b) content) (ap (λ (d : Content). d.next_container) content) ok.described)) ok

@@ -8,7 +8,9 @@ use Rattle.lock_modes.specs.declared.mode.Mode.TheVariants.{TS, TX}
 use Rattle.lock_modes.specs.declared.name.LockName.{LockName}
 use Rattle.lock_modes.specs.declared.name.LockName.TheVariants.{Dictionary, Table}
 use Rattle.lock_modes.specs.Lock.{Lock}
-use Rattle.table_model.specs.Tables.{Made, Each, laid_over}
+use Rattle.table_model.specs.Tables.{Tables, Made, Each, laid_over, rest_of}
+use Rattle.store_api.specs.declared.slot.Item.{Item}
+use Rattle.store_api.specs.declared.slot.Item.TheVariants.{Changed, Created, Discarded}
 use Rattle.store_api.specs.Order.{StandsBehind, IsFirstBehind}
 use Rattle.store_api.specs.View.{View, Heaps, changes_in}
 use Rattle.journal_model.specs.declared.journal.Refusal.{Refusal}
@@ -32,7 +34,7 @@ use Rattle.session_engine.specs.declared.session.Fill.{Fill}
 use Rattle.session_engine.specs.declared.session.Make.{Make}
 use Rattle.session_engine.specs.declared.session.Session.{Session}
 use Rattle.session_engine.proofs.ScanLemmas.{scanned_same}
-use Rattle.session_engine.specs.State.{IsStage, Reflects, Stands, HaveSlots, AreUsers, Busy, IsPromised, Runs, Asks, Prepares, Commands, Selects, Scans, Inserts, Fills, Bears, Plans, Waiting, Mirrors, Claims, IsShown, Refuses, Works, RefusesFor, PhaseHolds, SessionHolds, LockKept, Beside, txn_of}
+use Rattle.session_engine.specs.State.{IsStage, Reflects, Stands, HaveSlots, AreUsers, AreNew, MakesAlone, Busy, IsPromised, Runs, Asks, Prepares, Commands, Selects, Scans, Inserts, Fills, Bears, Makes, Waiting, Mirrors, Claims, IsShown, Refuses, Works, RefusesFor, PhaseHolds, SessionHolds, LockKept, Beside, txn_of}
 
 each_both : {X : Type 0} → (P R Q : X → Type 0) → ((x : X) → P x → R x → Q x) → (xs : List X) → Each P xs → Each R xs → Each Q xs
 each_both P R Q f [] h k = tt
@@ -217,13 +219,13 @@ bears_kept w l v w' l' v' c s make b more h = let e = b.others.txn in record {
   few = h.few;
 }
 
-plans_kept : (w : World) (l : Lock) (v : View) (w' : World) (l' : Lock) (v' : View) (c : ℕ) (s : Session) (make : Make) → Beside s.txn c w l v w' l' v' → w.count ≤ w'.count → Plans w l v s make → Plans w' l' v' s make
-unfolding bears_kept
-plans_kept w l v w' l' v' c s make b more h = record {
+makes_kept : (w : World) (l : Lock) (v : View) (w' : World) (l' : Lock) (v' : View) (c : ℕ) (s : Session) (make : Make) → Beside s.txn c w l v w' l' v' → w.count ≤ w'.count → Makes w l v s make → Makes w' l' v' s make
+unfolding bears_kept stands_kept
+makes_kept w l v w' l' v' c s make b more h = record {
   bears = bears_kept w l v w' l' v' c s make b more h.bears;
-  marked = ap (λ i. length (changes_in i)) b.changes ∙ h.marked;
   unchanged = subst (λ (x : Txn). x.changes ≡ x.begun) (sym b.others.txn) h.unchanged;
-  unmade = h.unmade;
+  stands = stands_kept w w' v v' s b.others.txn b.changes h.stands;
+  container = λ made. let p = h.container made in (p.0, ap changes_in b.changes ∙ p.1);
   none = h.none;
   no_room = h.no_room;
 }
@@ -241,7 +243,7 @@ works_kept plan.Nothing w l v w' l' v' c s b more h = h
 works_kept (plan.Command d) w l v w' l' v' c s b more h = commands_kept w l v w' l' v' c s d b more h
 works_kept (plan.Select scan) w l v w' l' v' c s b more h = scans_kept w l v w' l' v' c s scan b more h
 works_kept (plan.Insert fill) w l v w' l' v' c s b more h = fills_kept w l v w' l' v' c s fill b more h
-works_kept (plan.Create make) w l v w' l' v' c s b more h = plans_kept w l v w' l' v' c s make b more h
+works_kept (plan.Create make) w l v w' l' v' c s b more h = makes_kept w l v w' l' v' c s make b more h
 works_kept (plan.Refuse why) w l v w' l' v' c s b more h = h
 
 refusing_kept : (p : Plan) (w : World) (l : Lock) (v : View) (w' : World) (l' : Lock) (v' : View) (c : ℕ) (s : Session) → Beside s.txn c w l v w' l' v' → RefusesFor w l v s p → RefusesFor w' l' v' s p
@@ -262,6 +264,27 @@ slots_kept w l v w' l' v' c s shared b h = elim (shared.txns (txn_of s)).lawful 
       (w.txns (txn_of s)).changes (shared.txns (txn_of s)).owned h
 ]
 
+-- the containers that a transaction made are as new as they were: nothing changes beside it
+new_same : (f g : Tables) (items : List Item) (ms : List Made) → ((table : ℕ) (rid : RowId) → g table rid ≡ f table rid) → AreNew f items ms → AreNew g items ms
+new_same f g [] ms same h = tt
+new_same f g (Created c ∷ items) ms same h = (
+  record {
+    user = h.0.user;
+    apart = h.0.apart;
+    none = λ rid. laid_over_same ms g f c rid (same c rid) ∙ h.0.none rid;
+    unknown = λ d defines. h.0.unknown d (defines_same (laid_over ms g) (laid_over ms f) (λ table rid k. laid_over_same ms g f table rid (same table rid)) d defines);
+  },
+  new_same f g items ms same h.1,
+)
+new_same f g (Changed table rid before ∷ items) ms same h = new_same f g items (rest_of ms) same h
+new_same f g (Discarded c ∷ items) ms same h = h
+
+alone_kept : (t : ℕ) (w : World) (l : Lock) (w' : World) (l' : Lock) (items : List Item) (ms : List Made) → Others t w (locks_of l.grants) w' (locks_of l'.grants) → MakesAlone w.committed l t items ms → MakesAlone w'.committed l' t items ms
+alone_kept t w l w' l' items ms o h = elim h [
+  | inl none ↦ inl none
+  | inr made ↦ inr (writes_kept t w l w' l' o made.0, new_same w.committed w'.committed items ms (λ table rid. (o.whole made.0 table rid).0) made.1)
+]
+
 busy_kept : (w : World) (l : Lock) (v : View) (w' : World) (l' : Lock) (v' : View) (last last' c : ℕ) (s : Session) → Shared w (locks_of l.grants) → w'.conns c ≡ w.conns c → Beside s.txn c w l v w' l' v' → last ≤ last' → Busy w l v last c s → Busy w' l' v' last' c s
 busy_kept w l v w' l' v' last last' c s shared k b more h = let e = b.others.txn in record {
   stage = subst (λ (x : Txn). IsStage s.phase x.stage) (sym e) h.stage;
@@ -273,6 +296,9 @@ busy_kept w l v w' l' v' last last' c s shared k b more h = let e = b.others.txn
   reflects = subst (λ (x : Txn). Reflects s.opened (v'.content.changes (txn_of s)) x.changes) (sym e) (subst (λ i. Reflects s.opened i (w.txns (txn_of s)).changes) (sym b.changes) h.reflects);
   slots = subst (λ (x : Txn). HaveSlots v' x.changes) (sym e) (slots_kept w l v w' l' v' c s shared b h.slots);
   users = subst (λ (x : Txn). AreUsers x.changes) (sym e) h.users;
+  containers = subst (λ (x : Txn). MakesAlone w'.committed l' (txn_of s) (changes_in (v'.content.changes (txn_of s))) x.changes) (sym e)
+      (subst (λ i. MakesAlone w'.committed l' (txn_of s) (changes_in i) (w.txns (txn_of s)).changes) (sym b.changes)
+      (alone_kept (txn_of s) w l w' l' (changes_in (v.content.changes (txn_of s))) (w.txns (txn_of s)).changes b.others h.containers));
   idle = λ q. b.locks.none (h.idle q);
 }
 

@@ -21,7 +21,7 @@ use Rattle.session_model.proofs.BaseLemmas.{replay_push}
 use Rattle.session_engine.specs.Beginning.{begun, started, turned_away, away}
 use Rattle.session_engine.specs.declared.session.Phase.TheVariants.{Idle, Resting, Asking, Refusing, Leaving}
 use Rattle.session_engine.specs.declared.session.Session.{Session}
-use Rattle.session_engine.specs.State.{State, Holds, Busy, Mirrors, Reflects, PhaseHolds, IsStage, ends_in, opens, world_of, txn_of}
+use Rattle.session_engine.specs.State.{has_made, State, Holds, Busy, Mirrors, Reflects, PhaseHolds, IsStage, ends_in, opens, world_of, txn_of}
 use Rattle.session_engine.proofs.BeginLemmas.{begins, resumes, begun_txn, opened_only, left_alone}
 use Rattle.session_engine.proofs.StepLemmas.{own_session, phase_at}
 use Rattle.session_engine.proofs.TellLemmas.{denies, set_twice}
@@ -88,7 +88,7 @@ first_statement st last k r t text long order v' lt at is still_open next long_i
     let there : v'.content.changes t.0 ≡ Some [] = ap (λ (d : Content). d.changes t.0) content ∙ at_same st.view.content.changes t.0 (Some []) in
     let w = world_of st.es in
     begins st last k r (begun r t true 0 long order) t (record { 0 = k + 1 }) text v' lt at is still_open refl next above refl refl p.4 refl refl refl refl refl
-    ([], there, tt) (opened_only t.0 st.view v' content actors limit) (begun_stage long)
+    ([], there, tt) (ap (λ i. has_made (changes_in i)) there) (opened_only t.0 st.view v' content actors limit) (begun_stage long)
     (λ x busy. begun_phase long (apply w (started t k r.level text)) st.lock v' t.0 (k + 1) r t true 0 order text (ap (λ (y : Txn). y.text) x) (ap (λ (y : Txn). y.first) x)
     (let at : ((apply w (started t k r.level text)).txns t.0).started ≡ w.count = ap (λ (y : Txn). y.started) x in omega (arith, at))
     (ap (λ (y : Txn). y.changes) x ∙ sym (ap (λ (y : Txn). y.begun) x)) (ap (λ i. length (changes_in i)) there) long_is reads busy) ok
@@ -139,7 +139,7 @@ turned st last k r t text v' lt at is still_open next above unknown content acto
     let x : w1.txns t.0 ≡ begun_txn no_txn (k + 1) r.level text w.count true = turned_txn st last k r t text lt at is above ok in
     let x1 : (world_of st1.es).txns t.0 ≡ begun_txn no_txn (k + 1) r.level text w.count true = ap (λ (u : World). u.txns t.0) (sym push) ∙ x in
     let one : Holds st1 t.0 = begins st last k r r1 t (record { 0 = k + 1 }) text v' lt at is still_open refl next above refl p.0 p.4 refl refl refl refl refl
-    reflects (left_alone t.0 st.view v' content actors limit) refl
+    reflects (ap (λ i. has_made (changes_in i)) none) (left_alone t.0 st.view v' content actors limit) refl
     (λ x busy. (busy, p.0, λ live. absurd (both_ways true live refl))) ok in
     let lt1 : k < length st1.ss = subst (λ n. k < n) (sym (length-set st.ss k r1)) lt in
     let at1 : r1 ≡ get_or st1.ss k r1 = sym (get_or-set_same st.ss k r1 r1 lt) in

@@ -33,7 +33,7 @@ use Rattle.session_engine.specs.declared.session.Phase.TheVariants.{Committing, 
 use Rattle.session_engine.specs.declared.session.Session.{Session}
 use Rattle.session_engine.specs.Dictionary.{IsDictionary, Named}
 use Rattle.session_engine.specs.Engine.{EngineHolds, state}
-use Rattle.session_engine.specs.State.{State, Holds, SessionHolds, Busy, HaveSlots, AreUsers, Mirrors, Reflects, PhaseHolds, IsStage, WaitsNot, AreDescribed, world_of, txn_of}
+use Rattle.session_engine.specs.State.{MakesAlone, has_made, State, Holds, SessionHolds, Busy, HaveSlots, AreUsers, Mirrors, Reflects, PhaseHolds, IsStage, WaitsNot, AreDescribed, world_of, txn_of}
 use Rattle.session_engine.proofs.QueueLemmas.{none_asks}
 use Rattle.session_engine.proofs.MoveLemmas.{Stepping, StoreMoves, store_holds, lock_same, entered, moved, described_same}
 use Rattle.session_engine.proofs.RoomLemmas.{room_after}
@@ -100,7 +100,7 @@ stepping st last w' k r s' v' lt at busy quiet = stepping_idle st last w' k r s'
 -- THE COMMIT RECORD
 no_discards : (items : List Item) (ms : List Made) (d : Content) → Mirrors items ms → without_discarded items d ≡ d
 no_discards [] ms d h = refl
-no_discards (Created c ∷ items) ms d h = absurd h
+no_discards (Created c ∷ items) ms d h = no_discards items ms d h
 no_discards (Changed table rid before ∷ items) [] d h = absurd h
 no_discards (Changed table rid before ∷ items) (m ∷ ms) d h = no_discards items ms d h.3
 no_discards (Discarded c ∷ items) ms d h = absurd h
@@ -141,6 +141,7 @@ appends st last k r made v' lt at is none content actors limit ok =
           reflects = (closed_there, ap (λ (y : Txn). y.changes) x);
           slots = subst (λ (y : Txn). HaveSlots v' y.changes) (sym x) tt;
           users = subst (λ (y : Txn). AreUsers y.changes) (sym x) tt;
+          containers = inl (ap (λ i. has_made (changes_in i)) closed_there);
           idle = busy.idle;
         },
         p.1,
@@ -159,7 +160,7 @@ appends st last k r made v' lt at is none content actors limit ok =
     (λ i ne. refl) own (inl refl) refl (omega arith) ok.last_is
     (subst (λ (d : Content). Each (λ n. n < d.next_container) w.given) (sym plain) ok.given)
     (λ table rid. ap (λ (d : Content). live (d.heaps table rid)) plain ∙ ok.stored table rid)
-    ok.dictionary (described_same st.view v' st.named (λ n. ap (λ (d : Content). d.columns n) plain) ok.described)) ok
+    ok.dictionary (described_same st.view v' st.named (λ n. ap (λ (d : Content). d.columns n) plain) (ap (λ (d : Content). d.next_container) plain) ok.described)) ok
 
 -- WHAT IS STORED behind a call without memory and room of its own, whatever it answers
 pub stored_after : (damaged : Damage → Type 0) (left : Content) (v v' : View) (answer : Result (Unit {0}) StoreAnswer)
@@ -197,7 +198,7 @@ still_store st last v' content actors limit ok = record {
   holders = λ b h. ok.holders b (λ e. h (ap (λ x. x.pages) (actors b) ∙ e));
   few = (let few = ok.few in omega (arith, few, limit));
   dictionary = ok.dictionary;
-  described = described_same st.view v' st.named (λ n. ap (λ (x : Content). x.columns n) content) ok.described;
+  described = described_same st.view v' st.named (λ n. ap (λ (x : Content). x.columns n) content) (ap (λ (d : Content). d.next_container) content) ok.described;
 }
 
 -- THE COMMIT IS DURABLE
@@ -231,6 +232,7 @@ forced st last k r v' lt at is content actors limit ok =
           reflects = subst (λ (x : Content). Reflects r.opened (x.changes (txn_of r)) (w.txns (txn_of r)).changes) (sym content) busy.reflects;
           slots = subst (λ (x : Content). HaveSlots (record v' { content = x }) (w.txns (txn_of r)).changes) (sym content) busy.slots;
           users = busy.users;
+          containers = subst (λ (x : Content). MakesAlone w.committed st.lock (txn_of r) (changes_in (x.changes (txn_of r))) (w.txns (txn_of r)).changes) (sym content) busy.containers;
           idle = busy.idle;
         },
         p.1,
@@ -239,7 +241,7 @@ forced st last k r v' lt at is content actors limit ok =
     })
     (inl refl) refl (omega arith) ok.last_is
     (subst (λ (x : Content). Each (λ n. n < x.next_container) w.given) (sym content) ok.given)
-    (λ table rid. ap (λ (x : Content). live (x.heaps table rid)) content ∙ ok.stored table rid) ok.dictionary (described_same st.view v' st.named (λ n. ap (λ (x : Content). x.columns n) content) ok.described)) ok
+    (λ table rid. ap (λ (x : Content). live (x.heaps table rid)) content ∙ ok.stored table rid) ok.dictionary (described_same st.view v' st.named (λ n. ap (λ (x : Content). x.columns n) content) (ap (λ (d : Content). d.next_container) content) ok.described)) ok
 
 -- a session at a place, whatever way it was read
 pub same_session : (ss : List Session) (k : ℕ) (r s : Session) → k < length ss → r ≡ get_or ss k r → s ≡ get_or ss k s → r ≡ s

@@ -35,7 +35,7 @@ use Rattle.session_engine.specs.declared.session.Plan.{Plan}
 use Rattle.session_engine.specs.declared.session.Plan.TheVariants as plan
 use Rattle.session_engine.specs.declared.session.Session.{Session}
 use Rattle.session_engine.specs.Follows.{Follows, level_set, automatic_set}
-use Rattle.session_engine.specs.State.{State, Holds, SessionHolds, Busy, Commands, Refuses, RefusesFor, Works, Stands, Mirrors, Reflects, PhaseHolds, IsStage, IsShown, WaitsNot, IsOpened, IsUnchanged, HaveSlots, AreUsers, ends_in, opens, world_of, txn_of}
+use Rattle.session_engine.specs.State.{MakesAlone, State, Holds, SessionHolds, Busy, Commands, Refuses, RefusesFor, Works, Stands, Mirrors, Reflects, PhaseHolds, IsStage, IsShown, WaitsNot, IsOpened, IsUnchanged, HaveSlots, AreUsers, ends_in, opens, world_of, txn_of}
 use Rattle.session_engine.proofs.MoveLemmas.{store_holds, entered}
 use Rattle.session_engine.proofs.StepLemmas.{own_session, phase_at, stepping}
 use Rattle.session_engine.proofs.EndLemmas.{conn_at, at_conn, mirrors_nil, refuses_pages}
@@ -77,12 +77,13 @@ pub record BusyWith (w : World) (l : Lock) (v : View) (last c : ℕ) (s : Sessio
   pub reflects : Reflects s.opened (v.content.changes t.0) (w.txns t.0).changes
   pub slots : HaveSlots v (w.txns t.0).changes
   pub users : AreUsers (w.txns t.0).changes
+  pub containers : MakesAlone w.committed l t.0 (changes_in (v.content.changes t.0)) (w.txns t.0).changes
   pub idle : s.queued ≡ false → waiting l t ≡ None
 
 pub busy_at : (w : World) (l : Lock) (v : View) (last c : ℕ) (s : Session) (t : TxnNo) → s.txn ≡ t → BusyWith w l v last c s t → Busy w l v last c s
 busy_at w l v last c s t e h =
     let k : BusyWith w l v last c s s.txn = subst (BusyWith w l v last c s) (sym e) h in
-    record { stage = k.stage; conn = k.conn; mine = k.mine; positive = k.positive; numbered = k.numbered; numbers = k.numbers; reflects = k.reflects; slots = k.slots; users = k.users; idle = k.idle }
+    record { stage = k.stage; conn = k.conn; mine = k.mine; positive = k.positive; numbered = k.numbered; numbers = k.numbers; reflects = k.reflects; slots = k.slots; users = k.users; containers = k.containers; idle = k.idle }
 
 untold_open : (x : Stage) → is_untold x ≡ true → is_ended x ≡ false
 untold_open x h = grind arith
@@ -149,6 +150,7 @@ answers st last k r s' answer joined from to lt at is follows level automatic tx
       reflects = subst (λ b. Reflects b (st.view.content.changes a) (w'.txns a).changes) (sym opened) (subst (λ (y : Txn). Reflects r.opened (st.view.content.changes a) y.changes) (sym x) busy.reflects);
       slots = subst (λ (y : Txn). HaveSlots st.view y.changes) (sym x) busy.slots;
       users = subst (λ (y : Txn). AreUsers y.changes) (sym x) busy.users;
+      containers = subst (λ (y : Txn). MakesAlone w.committed st.lock a (changes_in (st.view.content.changes a)) y.changes) (sym x) busy.containers;
       idle = λ q. busy.idle p.1;
     }) in
     let own : SessionHolds w' st.lock st.view last (k + 1) s' = record {
@@ -294,6 +296,7 @@ denies st last k r s' why lt at busy quiet untold first unchanged shown follows 
       reflects = subst (λ b. Reflects b (st.view.content.changes a) (w'.txns a).changes) (sym opened) (subst (λ (y : Txn). Reflects r.opened (st.view.content.changes a) y.changes) (sym x) busy.reflects);
       slots = subst (λ (y : Txn). HaveSlots st.view y.changes) (sym x) busy.slots;
       users = subst (λ (y : Txn). AreUsers y.changes) (sym x) busy.users;
+      containers = subst (λ (y : Txn). MakesAlone w.committed st.lock a (changes_in (st.view.content.changes a)) y.changes) (sym x) busy.containers;
       idle = λ q. busy.idle quiet;
     }) in
     let own : SessionHolds w' st.lock st.view last (k + 1) s' = record {

@@ -126,8 +126,8 @@ reads_grow l l' t table rid k h = elim (cases_Bool (has_mode (l.grants t (guard 
     or_last false h = h
 
 -- the connection goes on, or waits: it is as busy
-busy_on : (w : World) (l l' : Lock) (v v' : View) (last c : ℕ) (s s' : Session) → s' ≡ record s { queued = s'.queued; phase = s'.phase } → v'.content ≡ v.content → ((s'.queued ≡ false) → waiting l' s.txn ≡ None) → IsStage s'.phase (w.txns (txn_of s)).stage → Busy w l v last c s → Busy w l' v' last c s'
-busy_on w l l' v v' last c s s' is content idle stage b =
+busy_on : (w : World) (l l' : Lock) (v v' : View) (last c : ℕ) (s s' : Session) → Grows s.txn l l' → s' ≡ record s { queued = s'.queued; phase = s'.phase } → v'.content ≡ v.content → ((s'.queued ≡ false) → waiting l' s.txn ≡ None) → IsStage s'.phase (w.txns (txn_of s)).stage → Busy w l v last c s → Busy w l' v' last c s'
+busy_on w l l' v v' last c s s' grows is content idle stage b =
     subst (Busy w l' v' last c) (sym is)
     (subst (λ (d : Content). Busy w l' (record v' { content = d }) last c (record s { queued = s'.queued; phase = s'.phase })) (sym content) (record {
       stage = stage;
@@ -139,6 +139,7 @@ busy_on w l l' v v' last c s s' is content idle stage b =
       reflects = b.reflects;
       slots = b.slots;
       users = b.users;
+      containers = elim b.containers [ inl none ↦ inl none | inr made ↦ inr (λ table rid c. grows (guard table) TX (made.0 table rid c), made.1) ];
       idle = idle;
     }))
 
@@ -154,14 +155,14 @@ asking_wants w l v last c s is busy opened h = record {
   unchanged = h.unchanged;
   goes_on = λ l' k idle has.
       subst (λ p. PhaseHolds (behind p) w l' v last c (record s { queued = false; phase = behind p })) (sym is) (
-        busy_on w l l' v v last c s (record s { queued = false; phase = Preparing }) refl refl (λ q. idle) runs busy,
+        busy_on w l l' v v last c s (record s { queued = false; phase = Preparing }) k refl refl (λ q. idle) runs busy,
         refl,
         opened,
         record { runs = record { first = h.runs.first; since = h.runs.since; short = h.runs.short }; marked = h.marked; unchanged = h.unchanged; order = h.order; catalog = relies_on_catalog l' s.txn s.order has; alone = λ c. writes_catalog l' s.txn s.order c has },
       );
   waits_on = λ l' v' k content waits.
       subst (λ p. PhaseHolds p w l' v' last c (record s { queued = true })) (sym is) (
-        busy_on w l l' v v' last c s (record s { queued = true }) refl content (λ q. absurd (both_ways true q refl)) (subst (λ p. IsStage p (w.txns (txn_of s)).stage) (sym is) runs) busy,
+        busy_on w l l' v v' last c s (record s { queued = true }) k refl content (λ q. absurd (both_ways true q refl)) (subst (λ p. IsStage p (w.txns (txn_of s)).stage) (sym is) runs) busy,
         opened,
         record {
           runs = record { first = h.runs.first; since = h.runs.since; short = h.runs.short };
@@ -189,7 +190,7 @@ claiming_wants w l v last c s scan is planned busy opened h unread promised = re
   unchanged = h.unchanged;
   goes_on = λ l' k idle has.
       subst (λ p. PhaseHolds (behind p) w l' v last c (record s { queued = false; phase = behind p })) (sym is) (
-        busy_on w l l' v v last c s (record s { queued = false; phase = Working }) refl refl (λ q. idle) runs busy,
+        busy_on w l l' v v last c s (record s { queued = false; phase = Working }) k refl refl (λ q. idle) runs busy,
         refl,
         opened,
         subst (Works w l' v c (record s { queued = false; phase = Working })) (sym planned) (record {
@@ -214,7 +215,7 @@ claiming_wants w l v last c s scan is planned busy opened h unread promised = re
       );
   waits_on = λ l' v' k content waits.
       subst (λ p. PhaseHolds p w l' v' last c (record s { queued = true })) (sym is) (
-        busy_on w l l' v v' last c s (record s { queued = true }) refl content (λ q. absurd (both_ways true q refl)) (subst (λ p. IsStage p (w.txns (txn_of s)).stage) (sym is) runs) busy,
+        busy_on w l l' v v' last c s (record s { queued = true }) k refl content (λ q. absurd (both_ways true q refl)) (subst (λ p. IsStage p (w.txns (txn_of s)).stage) (sym is) runs) busy,
         opened,
         subst (Claims w l' v' (record s { queued = true })) (sym planned) (
           record {
@@ -251,7 +252,7 @@ filling_wants w l v last c s fill is planned busy opened h promised = record {
   unchanged = h.unchanged;
   goes_on = λ l' k idle has.
       subst (λ p. PhaseHolds (behind p) w l' v last c (record s { queued = false; phase = behind p })) (sym is) (
-        busy_on w l l' v v last c s (record s { queued = false; phase = Working }) refl refl (λ q. idle) runs busy,
+        busy_on w l l' v v last c s (record s { queued = false; phase = Working }) k refl refl (λ q. idle) runs busy,
         refl,
         opened,
         subst (Works w l' v c (record s { queued = false; phase = Working })) (sym planned) (record {
@@ -287,7 +288,7 @@ filling_wants w l v last c s fill is planned busy opened h promised = record {
       );
   waits_on = λ l' v' k content waits.
       subst (λ p. PhaseHolds p w l' v' last c (record s { queued = true })) (sym is) (
-        busy_on w l l' v v' last c s (record s { queued = true }) refl content (λ q. absurd (both_ways true q refl)) (subst (λ p. IsStage p (w.txns (txn_of s)).stage) (sym is) runs) busy,
+        busy_on w l l' v v' last c s (record s { queued = true }) k refl content (λ q. absurd (both_ways true q refl)) (subst (λ p. IsStage p (w.txns (txn_of s)).stage) (sym is) runs) busy,
         opened,
         subst (Claims w l' v' (record s { queued = true })) (sym planned) (
           record {
@@ -425,7 +426,7 @@ own_step st last k r s' v' lt at busy idle is content actors limit phase ok =
     (inl (ap txn_of is)) (ap (λ (x : Session). x.script) is) (omega arith) ok.last_is
     (subst (λ (x : Content). Each (λ n. n < x.next_container) w.given) (sym content) ok.given)
     (λ table rid. ap (λ (x : Content). live (x.heaps table rid)) content ∙ ok.stored table rid) ok.dictionary
-    (described_same st.view v' st.named (λ n. ap (λ (x : Content). x.columns n) content) ok.described)) ok
+    (described_same st.view v' st.named (λ n. ap (λ (x : Content). x.columns n) content) (ap (λ (d : Content). d.next_container) content) ok.described)) ok
 
 -- GRANTED SINCE
 pub wakes : (st : State) (last k : ℕ) (r : Session) (n : LockName) (m : Mode) → k < length st.ss → r ≡ get_or st.ss k r → wanted r.phase r.order r.plan ≡ Some (n, m) → r.queued ≡ true
@@ -475,6 +476,7 @@ refusing_unchanged w l v last c s why busy idle opened runs first marked unchang
       reflects = b.reflects;
       slots = b.slots;
       users = b.users;
+      containers = b.containers;
       idle = λ q. idle;
     }
 

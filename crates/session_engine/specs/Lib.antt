@@ -11,3 +11,4 @@ pub mod Asking
 pub mod Binding
 pub mod Filling
 pub mod Stepped
+pub mod Creating

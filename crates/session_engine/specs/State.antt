@@ -14,7 +14,7 @@ use Rattle.lock_modes.specs.Modes.{has_mode}
 use Rattle.lock_modes.specs.Names.{same_txn}
 use Rattle.lock_modes.specs.Waits.{waiting}
 use Rattle.table_model.specs.Fitting.{fits_columns}
-use Rattle.table_model.specs.Tables.{Tables, Made, Each, no_tables}
+use Rattle.table_model.specs.Tables.{Tables, Made, Each, no_tables, laid_over, rest_of}
 use Rattle.store_api.specs.declared.slot.Item.{Item}
 use Rattle.store_api.specs.declared.slot.Item.TheVariants.{Changed, Created, Discarded}
 use Rattle.store_api.specs.View.{View, live, changes_in}
@@ -33,7 +33,8 @@ use Rattle.session_engine.specs.declared.session.Plan.TheVariants as plan
 use Rattle.sql_commands.specs.declared.command.Command.{Command}
 use Rattle.session_model.specs.declared.order.Order.TheVariants as ordered
 use Rattle.journal_model.specs.declared.journal.Refusal.{Refusal}
-use Rattle.journal_model.specs.Catalog.{NoTable}
+use Rattle.dby_types.specs.declared.definition.TableDef.{TableDef}
+use Rattle.journal_model.specs.Catalog.{Defines, NoTable}
 use Rattle.journal_model.specs.Meaning.{is_long, Names, Suits, names_twice, some_null}
 use Rattle.journal_model.specs.Levels.{row_of}
 use Rattle.journal_model.specs.Legal.{written, row_put}
@@ -80,11 +81,11 @@ IsStage Forcing x = x ≡ settled
 IsStage Acknowledging x = x ≡ settled
 IsStage Leaving x = is_returnable x ≡ true
 
--- THE STORE'S LIST of a transaction's changes is the journal's
+-- THE STORE'S LIST of a transaction's changes is the journal's, which says nothing of the containers that it made
 abbrev pub Mirrors : List Item → List Made → Type 0
 Mirrors [] [] = Unit {0}
 Mirrors [] (m ∷ ms) = ⊥
-Mirrors (Created c ∷ items) ms = ⊥
+Mirrors (Created c ∷ items) ms = Mirrors items ms
 Mirrors (Changed table rid before ∷ items) [] = ⊥
 Mirrors (Changed table rid before ∷ items) (m ∷ ms) = (m.change.table ≡ table) × (m.change.rid ≡ rid) × (live before ≡ m.change.old) × Mirrors items ms
 Mirrors (Discarded c ∷ items) ms = ⊥
@@ -109,6 +110,29 @@ pub record Stands (mark : ℕ) (items : List Item) (x : Txn) : Type 0 where
 abbrev pub HaveSlots : View → List Made → Type 0
 HaveSlots v ms = Each (λ m. v.content.heaps m.change.table m.change.rid ≢ None) ms
 
+-- as a container was made, behind these changes, no row stood in it, and no table had its number
+pub record IsNewContainer (f : Tables) (ms : List Made) (c : ℕ) : Type 0 where
+  pub user : is_catalog c ≡ false
+  pub apart : Each (λ m. m.change.table ≢ c) ms
+  pub none : (rid : RowId) → laid_over ms f c rid ≡ None
+  pub unknown : (d : TableDef) → Defines (laid_over ms f) d → d.number ≢ c
+
+abbrev pub AreNew : Tables → List Item → List Made → Type 0
+AreNew f [] ms = Unit {0}
+AreNew f (Created c ∷ items) ms = IsNewContainer f ms c × AreNew f items ms
+AreNew f (Changed table rid before ∷ items) ms = AreNew f items (rest_of ms)
+AreNew f (Discarded c ∷ items) ms = ⊥
+
+abbrev pub has_made : List Item → Bool
+has_made [] = false
+has_made (Created c ∷ items) = true
+has_made (Changed table rid before ∷ items) = has_made items
+has_made (Discarded c ∷ items) = has_made items
+
+-- who makes containers has the catalog alone, so that nothing changes beside it
+abbrev pub MakesAlone : Tables → Lock → ℕ → List Item → List Made → Type 0
+MakesAlone f l t items ms = (has_made items ≡ false) ⊎ (WritesCatalog (locks_of l.grants) t × AreNew f items ms)
+
 -- no change is of the catalog: no statement of the engine makes or drops a table yet
 abbrev pub AreUsers : List Made → Type 0
 AreUsers ms = Each (λ m. is_catalog m.change.table ≡ false) ms
@@ -124,6 +148,7 @@ pub record Busy (w : World) (l : Lock) (v : View) (last c : ℕ) (s : Session) :
   pub reflects : Reflects s.opened (v.content.changes (txn_of s)) (w.txns (txn_of s)).changes
   pub slots : HaveSlots v (w.txns (txn_of s)).changes
   pub users : AreUsers (w.txns (txn_of s)).changes
+  pub containers : MakesAlone w.committed l (txn_of s) (changes_in (v.content.changes (txn_of s))) (w.txns (txn_of s)).changes
   pub idle : s.queued ≡ false → waiting l s.txn ≡ None
 
 -- A REQUEST OF ITS OWN: it waits, or was granted since
@@ -245,12 +270,12 @@ pub record Bears (w : World) (l : Lock) (s : Session) (make : Make) : Type 0 whe
   pub distinct : names_twice make.def.columns ≡ false
   pub few : length make.def.columns ≤ 64
 
--- it has changed nothing
-pub record Plans (w : World) (l : Lock) (v : View) (s : Session) (make : Make) : Type 0 where
+-- it has put no row of the catalog yet; once its container is made, that is the newest thing that it did
+pub record Makes (w : World) (l : Lock) (v : View) (s : Session) (make : Make) : Type 0 where
   pub bears : Bears w l s make
-  pub marked : IsMarked v s
   pub unchanged : IsUnchanged w s
-  pub unmade : make.made ≡ false
+  pub stands : Stands s.mark (changes_in (v.content.changes (txn_of s))) (w.txns (txn_of s))
+  pub container : make.made ≡ true → (rest : List Item) × (changes_in (v.content.changes (txn_of s)) ≡ Created make.def.number ∷ rest)
   pub none : make.done ≡ 0
   pub no_room : make.has_room ≡ false
 
@@ -265,7 +290,7 @@ abbrev pub Works : World → Lock → View → ℕ → Session → Plan → Type
 Works w l v c s (plan.Command d) = Commands w l v s d
 Works w l v c s (plan.Select scan) = Scans w l v s scan
 Works w l v c s (plan.Insert fill) = Fills w l v c s fill
-Works w l v c s (plan.Create make) = Plans w l v s make
+Works w l v c s (plan.Create make) = Makes w l v s make
 Works w l v c s _ = ⊥
 
 abbrev pub RefusesFor : World → Lock → View → Session → Plan → Type 0
@@ -327,9 +352,9 @@ abbrev pub times_in : TxnNo → List Request → ℕ
 times_in t [] = 0
 times_in t (r ∷ rs) = if same_txn r.txn t then times_in t rs + 1 else times_in t rs
 
--- the store reads and writes the tables of the dictionary by their columns
+-- the store reads and writes the tables of the dictionary by their columns, and has made their containers
 abbrev pub AreDescribed : View → List Named → Type 0
-AreDescribed v named = (e : Named) → Among e named → v.content.columns e.1.number ≡ Some e.1.columns
+AreDescribed v named = (e : Named) → Among e named → (v.content.columns e.1.number ≡ Some e.1.columns) × (e.1.number < v.content.next_container)
 
 -- THE INVARIANT
 pub record Holds (st : State) (last : ℕ) : Type 0 where

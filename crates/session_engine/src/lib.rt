@@ -6,6 +6,7 @@ mod asking;
 mod begin;
 mod beginning;
 mod binding;
+mod create;
 mod creating;
 pub mod dictionary;
 pub mod engine;

@@ -5,7 +5,7 @@ ghost use Rattle.session_engine.specs.Stepped.{ends_now, is_end_of};
 
 use crate::session::{Fill, Phase, Plan, Scan, Session, Where};
 
-/// What a bound statement does next: a query's steps, an INSERT's, and that of a command.
+/// What a bound statement does next: a query's steps, an INSERT's, a CREATE's, and that of a command.
 #[derive(Clone, Copy, Debug, PartialEq, Eq)]
 pub(crate) enum Work {
     Seek,
@@ -14,6 +14,7 @@ pub(crate) enum Work {
     Widen,
     Fill,
     Count,
+    Make,
     Command,
 }
 
@@ -75,6 +76,7 @@ fn next_of_plan(plan: &Plan) -> Work {
     match plan {
         Plan::Select(scan) => next_of_scan(scan),
         Plan::Insert(fill) => next_of_fill(fill),
+        Plan::Create(_) => Work::Make,
         _ => Work::Command,
     }
 }

@@ -73,6 +73,7 @@ impl<S: RowStore + Drop> Engine<S> {
             Work::Widen => self.widen(c),
             Work::Fill => self.fill(c),
             Work::Count => self.count(c),
+            Work::Make => self.make(c),
             Work::Command => self.command(c),
         }
     }

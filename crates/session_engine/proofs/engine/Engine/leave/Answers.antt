@@ -10,6 +10,7 @@ use Rattle.session_engine.specs.Engine.{state}
 use Rattle.session_engine.proofs.CountLemmas.{may_hold}
 use Rattle.session_engine.proofs.RoomLemmas.{room_for, releases_for, room_after}
 use Rattle.session_engine.proofs.StepLemmas.{stored_after, refused_content}
+use Rattle.session_engine.proofs.ContainerLemmas.{leaves_container}
 use Rattle.session_engine.proofs.EndLemmas.{undoes_transaction, rolls_back, closes, leaves_pages, leaves_done}
 use Rattle.session_engine.proofs.engine.Engine.leave.Goals as goal
 
@@ -138,6 +139,20 @@ invariant_of-self-in-Ok-Onward g c =
       holds = leaves_pages (state c.self.inside.entries c.self.inside.events c.self.inside.locks c.self.inside.sessions.items (g.S.RowStore.view c.self.inside.store) c.self.inside.tables.entries)
           c.self.inside.last c.args.c c.index_mut-session.result.now (g.S.RowStore.view c.undo_one.new.self) lt c.index_mut-session.ensures.value c.in-Leaving.is (subst (λ u. Undoes c.actor_of-actor.result c.index_mut-session.result.now.txn.0 0 (g.S.RowStore.view c.self.inside.store) (g.S.RowStore.view c.undo_one.new.self) u) c.in-Ok-Onward.field-0-is c.in-Ok-Onward.ensures.ok).0.stored
           (λ b ne. c.in-Ok-Onward.ensures.frame.others b (λ e. ne (e ∙ actor))) c.in-Ok-Onward.ensures.frame.limit_same c.self.invariant.holds;
+      room = room_after c.self.inside.entries c.self.inside.entries c.self.inside.events c.self.inside.events c.self.inside.sessions.items (lock c.self.inside.locks) (lock c.self.inside.locks)
+          c.self.inside.owed c.self.inside.owed_events c.self.inside.owed c.self.inside.owed_events c.args.c c.index_mut-session.result.now c.index_mut-session.result.now c.self.invariant.room lt c.index_mut-session.ensures.value refl refl c.self.invariant.room.entries_fit c.self.invariant.room.events_fit;
+      woken = c.self.invariant.woken;
+    }
+
+pub invariant_of-self-in-Ok-UndidContainer : goal.invariant_of-self-in-Ok-UndidContainer
+invariant_of-self-in-Ok-UndidContainer g c =
+    let lt : c.args.c < length c.self.inside.sessions.items = omega arith in
+    let actor = c.actor_of-actor.ensures in
+    record {
+      holds = leaves_container (state c.self.inside.entries c.self.inside.events c.self.inside.locks c.self.inside.sessions.items (g.S.RowStore.view c.self.inside.store) c.self.inside.tables.entries)
+          c.self.inside.last c.args.c c.index_mut-session.result.now (g.S.RowStore.view c.undo_one.new.self) lt c.index_mut-session.ensures.value c.in-Leaving.is c.in-true.is
+          (subst (λ u. Undoes c.actor_of-actor.result c.index_mut-session.result.now.txn.0 0 (g.S.RowStore.view c.self.inside.store) (g.S.RowStore.view c.undo_one.new.self) u) c.in-Ok-UndidContainer.field-0-is c.in-Ok-UndidContainer.ensures.ok).0
+          (λ b ne. c.in-Ok-UndidContainer.ensures.frame.others b (λ e. ne (e ∙ actor))) c.in-Ok-UndidContainer.ensures.frame.limit_same c.self.invariant.holds;
       room = room_after c.self.inside.entries c.self.inside.entries c.self.inside.events c.self.inside.events c.self.inside.sessions.items (lock c.self.inside.locks) (lock c.self.inside.locks)
           c.self.inside.owed c.self.inside.owed_events c.self.inside.owed c.self.inside.owed_events c.args.c c.index_mut-session.result.now c.index_mut-session.result.now c.self.invariant.room lt c.index_mut-session.ensures.value refl refl c.self.invariant.room.entries_fit c.self.invariant.room.events_fit;
       woken = c.self.invariant.woken;
