@@ -13,10 +13,34 @@ use sql_ast::statement::Statement;
 use std::alloc::{AllocError, Global};
 use std::test::Fail;
 
+/// What a statement asks for.
+#[derive(Clone, Copy)]
+enum Asks {
+    Table,
+    Off,
+    Row,
+    Rows,
+    Commit,
+    NoTable,
+    Rollback,
+}
+
+fn text_of(asks: Asks) -> &'static str {
+    match asks {
+        Asks::Table => "CREATE TABLE T(A INT)",
+        Asks::Off => "autocommit off",
+        Asks::Row => "INSERT INTO T VALUES (1)",
+        Asks::Rows => "SELECT * FROM T",
+        Asks::Commit => "commit",
+        Asks::NoTable => "SELECT * FROM U",
+        Asks::Rollback => "rollback",
+    }
+}
+
 /// What a transaction of the journal does.
 #[derive(Clone, Copy)]
 enum Deed {
-    Begins(u32, &'static str),
+    Begins(u32, Asks),
     Done,
     Changes,
     Reads,
@@ -59,9 +83,9 @@ fn rows(alloc: Global) -> Result<Answer, AllocError> {
 fn entry(alloc: Global, number: u64, deed: Deed) -> Result<Entry, AllocError> {
     let txn = TxnNo(number);
     Ok(match deed {
-        Begins(conn, text) => {
+        Begins(conn, asks) => {
             let mut bytes = Vec::new(alloc);
-            bytes.extend_from_slice(text.as_bytes())?;
+            bytes.extend_from_slice(text_of(asks).as_bytes())?;
             Entry::Started {
                 txn,
                 conn: ConnNo(conn),
@@ -97,22 +121,22 @@ fn entries(alloc: Global, deeds: &[(u64, Deed)]) -> Result<Vec<Entry>, AllocErro
 
 /// A table is made, and a row is put with autocommit off; the second connection begins to read.
 const BEGUN: [(u64, Deed); 11] = [
-    (1, Begins(1, "CREATE TABLE T(A INT)")),
+    (1, Begins(1, Asks::Table)),
     (1, Done),
     (1, Commits),
     (1, Acknowledges),
-    (2, Begins(1, "autocommit off")),
+    (2, Begins(1, Asks::Off)),
     (2, Done),
     (2, Commits),
     (2, Acknowledges),
-    (3, Begins(1, "INSERT INTO T VALUES (1)")),
+    (3, Begins(1, Asks::Row)),
     (3, Changes),
-    (4, Begins(2, "SELECT * FROM T")),
+    (4, Begins(2, Asks::Rows)),
 ];
 
 /// The first commits, and the second reads the row.
 const READ: [(u64, Deed); 7] = [
-    (3, Begins(1, "commit")),
+    (3, Begins(1, Asks::Commit)),
     (3, TellsCommit),
     (3, Commits),
     (3, Acknowledges),
@@ -126,41 +150,66 @@ const CLOSED: [(u64, Deed); 2] = [(3, RollsBack), (4, RollsBack)];
 
 /// A refusal that leaves its transaction open, and a rollback.
 const BACK: [(u64, Deed); 7] = [
-    (3, Begins(1, "SELECT * FROM U")),
+    (3, Begins(1, Asks::NoTable)),
     (3, Refuses),
-    (3, Begins(1, "rollback")),
+    (3, Begins(1, Asks::Rollback)),
     (3, TellsRollback),
     (3, RollsBack),
     (4, Refuses),
     (4, RollsBack),
 ];
 
+/// What is printed of the journal that begins so and goes on with these deeds; None where the sink failed.
+fn printed(alloc: Global, rest: &[(u64, Deed)]) -> Result<Option<MemSink>, AllocError> {
+    let mut journal = entries(alloc, BEGUN.as_slice())?;
+    for (number, deed) in rest {
+        journal.push(entry(alloc, *number, *deed)?)?;
+    }
+    let mut sink = MemSink::new(alloc);
+    let mut out = Outbox::new();
+    put_sessions(&mut out, &mut sink, 2, journal.as_slice());
+    if out.finish(&mut sink) {
+        Ok(Some(sink))
+    } else {
+        Ok(None)
+    }
+}
+
 #[test]
-fn prints_sessions(rt: HostRuntime) -> Result<(), Fail> {
-    let cases: [(&[(u64, Deed)], &str); 3] = [
-        (
-            READ.as_slice(),
-            "## connection 1\nDONE\nDONE\nCHANGED 1\nCOMMITTED\n## connection 2\nA\n1\nROWS 1\n",
-        ),
-        (
-            CLOSED.as_slice(),
-            "## connection 1\nDONE\nDONE\nCHANGED 1\n## connection 2\nNOT ANSWERED\n",
-        ),
-        (
-            BACK.as_slice(),
-            "## connection 1\nDONE\nDONE\nCHANGED 1\nERROR 42X05\nROLLED BACK\n## connection 2\nERROR 42X05\n",
-        ),
-    ];
-    for (rest, printed) in cases {
-        let mut journal = entries(rt.alloc(), BEGUN.as_slice())?;
-        for (number, deed) in rest {
-            journal.push(entry(rt.alloc(), *number, *deed)?)?;
-        }
-        let mut sink = MemSink::new(rt.alloc());
-        let mut out = Outbox::new();
-        put_sessions(&mut out, &mut sink, 2, journal.as_slice());
-        assert!(rt; out.finish(&mut sink));
-        assert_eq!(rt; sink.bytes(), printed.as_bytes());
+fn prints_a_reader(rt: HostRuntime) -> Result<(), Fail> {
+    let sink = printed(rt.alloc(), READ.as_slice())?;
+    assert!(rt; sink.is_some());
+    if let Some(sink) = sink {
+        assert_eq!(rt;
+            sink.bytes(),
+            b"## connection 1\nDONE\nDONE\nCHANGED 1\nCOMMITTED\n## connection 2\nA\n1\nROWS 1\n".as_slice()
+        );
+    }
+    Ok(())
+}
+
+#[test]
+fn prints_what_is_not_answered(rt: HostRuntime) -> Result<(), Fail> {
+    let sink = printed(rt.alloc(), CLOSED.as_slice())?;
+    assert!(rt; sink.is_some());
+    if let Some(sink) = sink {
+        assert_eq!(rt;
+            sink.bytes(),
+            b"## connection 1\nDONE\nDONE\nCHANGED 1\n## connection 2\nNOT ANSWERED\n".as_slice()
+        );
+    }
+    Ok(())
+}
+
+#[test]
+fn prints_a_rollback(rt: HostRuntime) -> Result<(), Fail> {
+    let sink = printed(rt.alloc(), BACK.as_slice())?;
+    assert!(rt; sink.is_some());
+    if let Some(sink) = sink {
+        assert_eq!(rt;
+            sink.bytes(),
+            b"## connection 1\nDONE\nDONE\nCHANGED 1\nERROR 42X05\nROLLED BACK\n## connection 2\nERROR 42X05\n".as_slice()
+        );
     }
     Ok(())
 }
