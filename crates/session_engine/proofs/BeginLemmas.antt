@@ -26,9 +26,10 @@ use Rattle.session_model.specs.Places.{locks_of}
 use Rattle.session_model.proofs.EntryLemmas.{quiet_others, started_kept}
 use Rattle.session_engine.specs.declared.session.Phase.TheVariants.{Idle, Resting}
 use Rattle.session_engine.specs.declared.session.Session.{Session}
-use Rattle.session_engine.specs.State.{State, Holds, SessionHolds, Busy, Waits, Reflects, PhaseHolds, IsStage, HaveSlots, AreUsers, MakesAlone, has_made, scripts_of, world_of, txn_of}
+use Rattle.session_engine.specs.State.{State, Holds, SessionHolds, Busy, Waits, Reflects, PhaseHolds, IsStage, HaveSlots, MakesAlone, has_made, scripts_of, world_of, txn_of}
 use Rattle.session_engine.proofs.QueueLemmas.{asks_of, find_later}
-use Rattle.session_engine.proofs.MoveLemmas.{store_holds, entered, described_same}
+use Rattle.session_engine.proofs.ListedLemmas.{quiet_catalog}
+use Rattle.session_engine.proofs.MoveLemmas.{store_holds, entered}
 use Rattle.session_engine.proofs.StepLemmas.{own_session, phase_at, stepping}
 use Rattle.session_engine.proofs.TellLemmas.{busy_at}
 
@@ -127,7 +128,6 @@ begins st last k r s' t c text v' lt at is still_open place next above txn queue
       numbers = ap (λ (y : Txn). map (λ m. m.number) y.changes) x ∙ ap reverse (sym made);
       reflects = subst (λ (y : Txn). Reflects s'.opened (v'.content.changes t.0) y.changes) (sym x) reflects;
       slots = subst (λ (y : Txn). HaveSlots v' y.changes) (sym x) tt;
-      users = subst (λ (y : Txn). AreUsers y.changes) (sym x) tt;
       containers = inl unmade;
       idle = λ q. waits;
     }) in
@@ -161,13 +161,14 @@ begins st last k r s' t c text v' lt at is still_open place next above txn queue
     (record {
       within = lt;
       positive = omega (arith, above);
-      others = λ u ne. quiet_others t.0 w l w' refl refl (λ u ne. at_other w.txns t.0 _ u ne) u ne;
+      others = λ u ne. quiet_others t.0 w l w' refl refl refl (λ u ne. at_other w.txns t.0 _ u ne) u ne;
       store = record {
         txns = store.txns;
         actors = λ b ne. store.actors b;
         limit_same = store.limit_same;
         heaps = λ u ne reads b q h. store.heaps b q;
         columns = λ u ne reads b. store.columns b;
+        next = (let same = store.next in omega (arith, same));
       };
       conns = λ i ne. at_other w.conns c.0 _ i (λ same. ne (same ∙ place));
       apart = λ i s ne b same. (let below = b.numbered in omega (arith, below, same, above));
@@ -182,8 +183,7 @@ begins st last k r s' t c text v' lt at is still_open place next above txn queue
       below = omega arith;
       given = subst (λ m. Each (λ n. n < m) w.given) (sym store.next) ok.given;
       stored = λ b q. ap live (store.heaps b q) ∙ ok.stored b q;
-      dictionary = ok.dictionary;
-      described = described_same st.view v' st.named store.columns store.next ok.described;
+      cataloged = quiet_catalog t.0 st.view v' w w' st.named refl store.columns store.next (λ u ne. at_other w.txns t.0 _ u ne) (inr (ap (λ (y : Txn). y.changes) x)) ok.cataloged;
     }) ok
 
 -- IN THE OPEN ONE
@@ -221,7 +221,6 @@ resumes st last k r s' c text lt at is still_open place next txn opened queued m
       numbers = ap (λ (y : Txn). map (λ m. m.number) y.changes) x ∙ busy.numbers ∙ ap reverse (sym made);
       reflects = subst (λ b. Reflects b (st.view.content.changes a) (w'.txns a).changes) (sym opened) (subst (λ (y : Txn). Reflects true (st.view.content.changes a) y.changes) (sym x) reflects);
       slots = subst (λ (y : Txn). HaveSlots st.view y.changes) (sym x) busy.slots;
-      users = subst (λ (y : Txn). AreUsers y.changes) (sym x) busy.users;
       containers = subst (λ (y : Txn). MakesAlone w.committed st.lock a (changes_in (st.view.content.changes a)) y.changes) (sym x) busy.containers;
       idle = λ q. busy.idle p.1;
     }) in
@@ -251,7 +250,8 @@ resumes st last k r s' c text lt at is still_open place next txn opened queued m
       refusal = tt;
     }) tt
     (started_kept r.txn c r.level (Unread text) w l (ap is_ended rests) ok.shared)
-    (stepping st last w' k r s' st.view lt at busy p.1 (quiet_others a w l w' refl refl (λ u ne. at_other w.txns a _ u ne))
+    (stepping st last w' k r s' st.view lt at busy p.1 (quiet_others a w l w' refl refl refl (λ u ne. at_other w.txns a _ u ne))
     (store_holds l a (k + 1) st.view st.view refl (λ b ne. refl) refl)
     (λ i ne. at_other w.conns c.0 _ i (λ same. ne (same ∙ place))) own (inl (ap (λ n. n.0) txn)) script (omega arith)
-    (ap (λ b. if b then a else w.last) first ∙ ok.last_is) ok.given ok.stored ok.dictionary ok.described) ok
+    (ap (λ b. if b then a else w.last) first ∙ ok.last_is) ok.given ok.stored
+    (quiet_catalog a st.view st.view w w' st.named refl (λ n. refl) refl (λ u ne. at_other w.txns a _ u ne) (inl (ap (λ (y : Txn). y.changes) x)) ok.cataloged)) ok

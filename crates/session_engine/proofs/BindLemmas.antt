@@ -1,5 +1,5 @@
 -- A statement is bound over the dictionary: it has its plan, or is refused with the evidence.
-use Rattle.std.proofs.Common.{◌≡◌, ℕ, ◌+◌, ◌<◌, ◌≤◌, List, [], ◌∷◌, length, set, get_or, reverse, Bool, true, false, refl, sym, ◌∙◌, ap, subst, arith, inl, inr, Option, Some, None}
+use Rattle.std.proofs.Common.{◌≡◌, ℕ, ◌+◌, ◌<◌, ◌≤◌, List, [], ◌∷◌, length, set, get_or, reverse, take, Bool, true, false, refl, sym, ◌∙◌, ap, subst, arith, inl, inr, Option, Some, None}
 use Rattle.std.specs.Prelude.{if◌then◌else◌}
 use Rattle.std.proofs.lemmas.List.{reverse-reverse}
 use Rattle.std.proofs.lemmas.Bool.{both_ways}
@@ -20,7 +20,7 @@ use Rattle.sql_commands.specs.declared.command.Command.{Command}
 use Rattle.sql_forms.specs.declared.form.Form.TheVariants.{Select, Insert, CreateTable}
 use Rattle.session_model.specs.declared.order.Order.{Order}
 use Rattle.session_model.specs.declared.order.Order.TheVariants as ordered
-use Rattle.session_model.specs.Legal.{HasEvidence, NullInOrder}
+use Rattle.session_model.specs.Legal.{HasEvidence, NullInOrder, puts_of}
 use Rattle.session_model.specs.Orders.{order_of, is_built, is_create, RefusedIf, RefusedOrder, PassesOrder}
 use Rattle.session_model.specs.Places.{ReadsCatalog, Shared, locks_of, is_catalog}
 use Rattle.session_model.specs.World.{World, running, seen}
@@ -33,7 +33,7 @@ use Rattle.session_engine.specs.declared.session.Session.{Session}
 use Rattle.session_engine.specs.Binding.{IsBound, BindsSelect, BindsInsert, BindsCreate, bound_phase}
 use Rattle.session_engine.specs.Dictionary.{Named, Among, IsThere, IsAbsent, IsDictionary, definition_of, named_of}
 use Rattle.session_engine.specs.State.{Mirrors, State, Holds, Busy, Prepares, IsOpened, IsShown, IsStage, Reflects, PhaseHolds, ends_in, opens, world_of, txn_of}
-use Rattle.session_engine.proofs.EndLemmas.{dictionary_same}
+use Rattle.session_engine.proofs.ListedLemmas.{dictionary_same}
 use Rattle.session_engine.proofs.StartLemmas.{mirrored}
 use Rattle.session_engine.proofs.StepLemmas.{own_session, phase_at}
 use Rattle.session_engine.proofs.TellLemmas.{busy_at}
@@ -84,7 +84,6 @@ busy_bound w l v last c s s' txn opened queued made stage b = busy_at w l v last
   numbers = b.numbers ∙ ap reverse (sym made);
   reflects = subst (λ o. Reflects o (v.content.changes (txn_of s)) (w.txns (txn_of s)).changes) (sym opened) b.reflects;
   slots = b.slots;
-  users = b.users;
   containers = b.containers;
   idle = λ q. b.idle (sym queued ∙ q);
 })
@@ -236,7 +235,6 @@ binds_create w l v last c s named name columns (plan.Create make) b order h = (
       distinct = ap names_twice b.3.columns_are ∙ b.1;
       few = subst (λ (cs : List ColumnDef). length cs ≤ 64) (sym b.3.columns_are) b.2;
     };
-    unchanged = h.prepares.unchanged;
     stands = record {
       own_items = [];
       base = changes_in (v.content.changes (txn_of s));
@@ -247,9 +245,11 @@ binds_create w l v last c s named name columns (plan.Create make) b order h = (
       mirrors_own = tt;
       mirrors_base = subst (Mirrors (changes_in (v.content.changes (txn_of s)))) h.prepares.unchanged (mirrored s.opened (v.content.changes (txn_of s)) (w.txns (txn_of s)).changes h.opened h.busy.reflects);
     };
-    container = λ made. absurd (both_ways make.made b.3.unmade made);
-    none = b.3.none;
-    no_room = b.3.no_room;
+    puts = sym (ap (λ n. take n (puts_of make.def.number make.def.name make.def.columns)) b.3.none);
+    within = (let none = b.3.none in omega (arith, none));
+    unmade = λ bare. (b.3.none, b.3.no_room);
+    founded = λ made left. absurd (both_ways make.made b.3.unmade made);
+    room = λ on. absurd (both_ways make.has_room b.3.no_room on);
   },
 )
 
@@ -279,7 +279,7 @@ binds st last k r p lt at is b ok =
       opened = h.2;
       prepares = h.3;
       runs = runs;
-      dictionary = dictionary_same w.current (seen w (txn_of r)) st.named (sees_current w st.lock (txn_of r) ok.shared h.3.catalog h.3.unchanged) ok.dictionary;
+      dictionary = dictionary_same w.current (seen w (txn_of r)) st.named (sees_current w st.lock (txn_of r) ok.shared h.3.catalog h.3.unchanged) ok.cataloged.dictionary;
     })) ok
 
 -- what it may still have to put

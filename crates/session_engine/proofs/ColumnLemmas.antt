@@ -17,7 +17,7 @@ use Rattle.session_model.specs.Places.{is_catalog}
 use Rattle.session_model.proofs.FitLemmas.{SameCatalog, defines_same}
 use Rattle.session_model.proofs.PlaceLemmas.{put_elsewhere, put_here, elsewhere}
 
-column_row-place : (m n p q : ℕ) (c d : ColumnDef) → column_row m p c ≡ column_row n q d → p ≡ q
+pub column_row-place : (m n p q : ℕ) (c d : ColumnDef) → column_row m p c ≡ column_row n q d → p ≡ q
 column_row-place m n p q c d h = cc
 
 same_type : (a b : Ty) → kind_of a ≡ kind_of b → size_of a ≡ size_of b → a ≡ b
@@ -47,7 +47,7 @@ same_type (ty.Text n) ty.Big h k = absurd (omega arith)
 same_type (ty.Text n) ty.Bool h k = absurd (omega arith)
 same_type (ty.Text n) (ty.Text m) h k = ap ty.Text k
 
-column_row-column : (m n p q : ℕ) (c d : ColumnDef) → column_row m p c ≡ column_row n q d → c ≡ d
+pub column_row-column : (m n p q : ℕ) (c d : ColumnDef) → column_row m p c ≡ column_row n q d → c ≡ d
 column_row-column m n p q c d h =
     let name : c.name ≡ d.name = cc in
     let kind : kind_of c.ty ≡ kind_of d.ty = cc in
@@ -75,7 +75,7 @@ one_way tables n cs ds h g k c at =
     let column : c ≡ found.1 = column_row-column n n k found.0 c found.1 found.3 in
     subst (λ q. slice_get ds q ≡ Some c) (sym place) (found.2 ∙ ap Some (sym column))
 
-one-list : (tables : Tables) (n : ℕ) (cs ds : List ColumnDef) → HasColumns tables n cs → HasColumns tables n ds → cs ≡ ds
+pub one-list : (tables : Tables) (n : ℕ) (cs ds : List ColumnDef) → HasColumns tables n cs → HasColumns tables n ds → cs ≡ ds
 one-list tables n cs ds h g = same_items cs ds (one_way tables n cs ds h g) (one_way tables n ds cs g h)
 
 -- A ROW of a statement's tuples suits its columns, and is stored as it is

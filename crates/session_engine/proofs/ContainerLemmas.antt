@@ -24,6 +24,7 @@ use Rattle.session_engine.specs.declared.session.Phase.TheVariants.{Refusing, Le
 use Rattle.session_engine.specs.declared.session.Plan.TheVariants as plan
 use Rattle.session_engine.specs.declared.session.Session.{Session}
 use Rattle.session_engine.specs.Dictionary.{Named, Among, definition_of}
+use Rattle.session_engine.specs.Listed.{Cataloged}
 use Rattle.session_engine.specs.State.{State, Holds, Busy, Refuses, RefusesFor, Stands, Mirrors, Reflects, HaveSlots, IsNewContainer, AreNew, MakesAlone, PhaseHolds, WaitsNot, IsOpened, has_made, world_of, txn_of}
 use Rattle.session_engine.proofs.MoveLemmas.{moved}
 use Rattle.session_engine.proofs.StepLemmas.{own_session, phase_at, stepping}
@@ -80,6 +81,25 @@ live_without heaps current c b q same none = elim (cases_eq b c) [
     eqb_is : (b c : ℕ) → b ≡ c → (b == c) ≡ true
     eqb_is b c is = grind (arith, nat_tests)
 
+-- the dictionary without a container that is no table's
+without_catalog : (v v' : View) (w : World) (named : List Named) (c : ℕ) {changes : ℕ → Option (List Item)} → v'.content ≡ record (without_container v.content c) { changes = changes } → is_catalog c ≡ false
+    → ((e : Named) → Among e named → e.1.number ≢ c) → Cataloged v w named → Cataloged v' w named
+without_catalog v v' w named c content user other h =
+    let columns : (n : ℕ) → n ≢ c → v'.content.columns n ≡ v.content.columns n = λ n ne. ap (λ (d : Content). d.columns n) content ∙ at_other v.content.columns c (catalog_columns c) n ne in
+    let next : v'.content.next_container ≡ v.content.next_container = ap (λ (d : Content). d.next_container) content in
+    record {
+      dictionary = h.dictionary;
+      described = λ e among. let p = h.described e among in (columns e.1.number (other e among) ∙ p.0, (let lt = p.1 in omega (arith, lt, next)));
+      catalogs = record {
+        of_tables = columns 1 (λ e. both_ways _ user (ap is_catalog (sym e))) ∙ h.catalogs.of_tables;
+        of_columns = columns 2 (λ e. both_ways _ user (ap is_catalog (sym e))) ∙ h.catalogs.of_columns;
+      };
+      listed = h.listed;
+      once = h.once;
+      numbered = λ rid row n at of. (let lt = h.numbered rid row n at of in omega (arith, lt, next));
+      lists = h.lists;
+    }
+
 -- A CONTAINER TAKEN BACK, with its own part given behind it
 unmakes : (st : State) (last k c : ℕ) (r : Session) (v' : View) (rest : List Item)
     → k < length st.ss → r ≡ get_or st.ss k r → Busy (world_of st.es) st.lock st.view last (k + 1) r → WaitsNot r → IsOpened r
@@ -109,32 +129,27 @@ unmakes st last k c r v' rest lt at busy quiet opened items content actors limit
       numbers = busy.numbers;
       reflects = subst (λ o. Reflects o (v'.content.changes a) (w.txns a).changes) (sym opened) (rest, changed, mirrors);
       slots = subst (λ (d : Content). Each (λ m. d.heaps m.change.table m.change.rid ≢ None) (w.txns a).changes) (sym content) (slots_without st.view.content.heaps c (w.txns a).changes made.1.apart busy.slots);
-      users = busy.users;
       containers = subst (λ i. MakesAlone w.committed st.lock a (changes_in i) (w.txns a).changes) (sym changed) (inr (made.0, made.2));
       idle = busy.idle;
     } in
     moved st last a k r v' (stepping st last w k r r v' lt at busy quiet
-    (λ t ne. record { txn = refl; reads = λ table rid h. h; writes = λ table rid h. h; committed = λ table rid h. refl; current = λ table rid h. refl; whole = λ h table rid. (refl, refl) })
+    (λ t ne. record { txn = refl; reads = λ table rid h. h; writes = λ table rid h. h; committed = λ table rid h. refl; current = λ table rid h. refl; whole = λ h table rid. (refl, refl); given = λ h. refl })
     (record {
       txns = λ t ne. ap (λ (d : Content). d.changes t) content ∙ at_other st.view.content.changes a (Some rest) t ne;
       actors = actors;
       limit_same = limit;
       heaps = λ t ne reads b q h. absurd (catalog_alone l a t ok.shared.fits made.0 reads ne);
       columns = λ t ne reads b. absurd (catalog_alone l a t ok.shared.fits made.0 reads ne);
+      next = (let same = ap (λ (d : Content). d.next_container) content in omega (arith, same));
     })
     (λ i ne. refl)
     (record { begun = mine.begun; level = mine.level; automatic = mine.automatic; closed = mine.closed; spans = mine.spans; phase = phase changed busy' })
     (inl refl) refl (omega arith) ok.last_is
     (subst (λ (d : Content). Each (λ n. n < d.next_container) w.given) (sym content) ok.given)
     (λ b q. ap (λ (d : Content). live (d.heaps b q)) content ∙ live_without st.view.content.heaps w.current c b q (ok.stored b q) none)
-    ok.dictionary
-    (λ e among.
-    let p = ok.described e among in
-    let other : e.1.number ≢ c = made.1.unknown (definition_of e)
-    (defines_same w.current (laid_over (w.txns a).changes w.committed) (λ table rid k. sole_view w l a ok.shared made.0 table rid) (definition_of e) (ok.dictionary.there e among)) in (
-      ap (λ (d : Content). d.columns e.1.number) content ∙ at_other st.view.content.columns c (catalog_columns c) e.1.number other ∙ p.0,
-      subst (λ (d : Content). e.1.number < d.next_container) (sym content) p.1,
-    ))) ok
+    (without_catalog st.view v' w st.named c content made.1.user
+    (λ e among. made.1.unknown (definition_of e)
+    (defines_same w.current (laid_over (w.txns a).changes w.committed) (λ table rid k. sole_view w l a ok.shared made.0 table rid) (definition_of e) (ok.cataloged.dictionary.there e among))) ok.cataloged)) ok
 
 -- a refused statement's own items, one container less
 stands_unmade : (mark c : ℕ) (rest : List Item) (x : Txn) → Stands mark (Created c ∷ rest) x → length (Created c ∷ rest) ≢ mark → Stands mark rest x

@@ -38,11 +38,13 @@ use Rattle.session_model.specs.Legal.{HasEvidence}
 use Rattle.sql_lexer.specs.Splitting.{spans_of}
 use Rattle.session_engine.specs.declared.session.Session.{Session}
 use Rattle.session_engine.specs.Noted.{noted}
-use Rattle.session_engine.specs.Dictionary.{Named, IsDictionary, definition_of}
-use Rattle.session_engine.specs.State.{MakesAlone, State, Holds, SessionHolds, Busy, Refuses, RefusesFor, Stands, Mirrors, Reflects, PhaseHolds, IsStage, WaitsNot, HaveSlots, AreUsers, world_of, txn_of}
-use Rattle.session_engine.proofs.MoveLemmas.{store_holds, entered, moved, described_same}
+use Rattle.session_engine.specs.Listed.{Cataloged, left_named}
+use Rattle.session_engine.specs.State.{MakesAlone, State, Holds, SessionHolds, Busy, Refuses, RefusesFor, Stands, Mirrors, Reflects, PhaseHolds, IsStage, WaitsNot, HaveSlots, world_of, txn_of}
+use Rattle.session_engine.proofs.ListedLemmas.{quiet_catalog, still_catalog}
+use Rattle.session_engine.proofs.ListingLemmas.{undone_catalog}
+use Rattle.session_engine.proofs.MoveLemmas.{store_holds, entered, entered_with, moved}
 use Rattle.session_engine.proofs.EventLemmas.{gone, served}
-use Rattle.session_engine.proofs.StepLemmas.{own_session, phase_at, asks_nothing, stepping}
+use Rattle.session_engine.proofs.StepLemmas.{own_session, phase_at, asks_nothing, stepping, stepping_with}
 
 -- THE STORE'S LIST AND THE JOURNAL'S
 pub mirrors_nil : (ms : List Made) → Mirrors [] ms → ms ≡ []
@@ -143,13 +145,6 @@ conn_at w a c k e = ap (number_at w.conns (w.txns a).conn k) (sym e) ∙ at_same
 pub at_conn : {X : Type 0} → (w : World) (a c : ℕ) → (w.txns a).conn ≡ c → (f : Conn → X) → f (w.conns (w.txns a).conn) ≡ f (w.conns c)
 at_conn w a c e f = ap (λ n. f (w.conns n)) e
 
-pub dictionary_same : (f g : Tables) (named : List Named) → SameCatalog f g → IsDictionary f named → IsDictionary g named
-dictionary_same f g named e h = record {
-  there = λ n a. defines_same f g e (definition_of n) (h.there n a);
-  only = λ d defines. h.only d (defines_same g f (other_way f g e) d defines);
-  user = h.user;
-}
-
 -- A CHANGE TAKEN BACK, with its own part given behind it
 returnable_after : (x : Stage) → is_returnable x ≡ true → is_returnable (after_undone x) ≡ true
 returnable_after x h = grind arith
@@ -185,7 +180,7 @@ undoes : (st : State) (last k : ℕ) (r : Session) (made : Vec ℕ Global) (v' :
     → Busy (apply (world_of st.es) (entry.Undone r.txn did)) st.lock v' last (k + 1) (record r { made = made })
     → PhaseHolds r.phase (apply (world_of st.es) (entry.Undone r.txn did)) st.lock v' last (k + 1) (record r { made = made }))
     → Holds st last
-    → Holds (record { es = st.es ++ entry.Undone r.txn did ∷ []; ls = st.ls; lock = st.lock; ss = set st.ss k (record r { made = made }); view = v'; named = st.named }) last
+    → Holds (record { es = st.es ++ entry.Undone r.txn did ∷ []; ls = st.ls; lock = st.lock; ss = set st.ss k (record r { made = made }); view = v'; named = left_named table st.named }) last
 undoes st last k r made v' did table rid before rest lt at busy quiet pop returnable stage closes items opened content actors limit phase ok =
     let w = world_of st.es in
     let l = locks_of st.lock.grants in
@@ -206,8 +201,6 @@ undoes st last k r made v' did table rid before rest lt at busy quiet pop return
     let wrote : l.writes a table rid ≡ true = subst (λ y. l.writes a table y ≡ true) n.rid_is (subst (λ y. l.writes a y n.made.change.rid ≡ true) n.table_is owned.0) in
     let catalog = lawful_of a n.made n.older w l (ok.shared.txns a) top in
     let slots : HaveSlots st.view (n.made ∷ n.older) = subst (HaveSlots st.view) top busy.slots in
-    let users : AreUsers (n.made ∷ n.older) = subst AreUsers top busy.users in
-    let user : is_catalog table ≡ false = subst (λ y. is_catalog y ≡ false) n.table_is users.0 in
     let there : st.view.content.heaps table rid ≢ None = subst (λ y. st.view.content.heaps table y ≢ None) n.rid_is (subst (λ y. st.view.content.heaps y n.made.change.rid ≢ None) n.table_is slots.0) in
     let changed : v'.content.changes a ≡ Some rest = ap (λ (d : Content). d.changes a) content ∙ at_same st.view.content.changes a (Some rest) in
     let current : w'.current ≡ put w.current table rid n.made.change.old =
@@ -225,7 +218,6 @@ undoes st last k r made v' did table rid before rest lt at busy quiet pop return
           (rest, changed, subst (λ (y : Txn). Mirrors rest y.changes) (sym x) (subst (λ ms. Mirrors rest (rest_of ms)) (sym top) n.mirrors));
       slots = subst (λ (y : Txn). HaveSlots v' y.changes) (sym x) (subst (λ ms. HaveSlots v' (rest_of ms)) (sym top) (each_slots st.view v' n.older (λ b q had. λ none.
           slot_stays st.view.content.heaps table rid before b q had (sym (ap (λ (d : Content). d.heaps b q) content) ∙ none)) slots.1));
-      users = subst (λ (y : Txn). AreUsers y.changes) (sym x) (subst (λ ms. AreUsers (rest_of ms)) (sym top) users.1);
       containers = subst (λ (y : Txn). MakesAlone w.committed st.lock a (changes_in (v'.content.changes a)) y.changes) (sym x)
           (subst (λ i. MakesAlone w.committed st.lock a (changes_in i) (rest_of (w.txns a).changes)) (sym changed)
           (subst (λ i. MakesAlone w.committed st.lock a (changes_in i) (w.txns a).changes) items busy.containers));
@@ -239,9 +231,9 @@ undoes st last k r made v' did table rid before rest lt at busy quiet pop return
       spans = mine.spans;
       phase = phase x changed busy';
     } in
-    entered st last e a k s' v' last
+    entered_with st last e a k s' v' last (left_named table st.named)
     (record { session = returnable; undo = (n.made, n.older, top, head); change = tt; refusal = tt }) tt (undone_kept r.txn did n.made n.older w l returnable top ok.shared)
-    (stepping st last w' k r s' v' lt at busy quiet (undone_others r.txn did n.made n.older w l ok.shared.fits top owned.0 catalog)
+    (stepping_with st last w' k r s' v' (left_named table st.named) lt at busy quiet (undone_others r.txn did n.made n.older w l ok.shared.fits top owned.0 catalog)
     (record {
       txns = λ t ne. ap (λ (d : Content). d.changes t) content ∙ at_other st.view.content.changes a (Some rest) t ne;
       actors = actors;
@@ -249,13 +241,14 @@ undoes st last k r made v' did table rid before rest lt at busy quiet pop return
       heaps = λ t ne reads b q h. ap (λ (d : Content). d.heaps b q) content
           ∙ heap_elsewhere st.view.content.heaps table rid (put_back before (st.view.content.heaps table rid)) b q (beside_place l a t table rid ok.shared.fits wrote ne b q h);
       columns = λ t ne reads b. ap (λ (d : Content). d.columns b) content;
+      next = (let same = ap (λ (d : Content). d.next_container) content in omega (arith, same));
     })
     (λ i ne. at_other w.conns (w.txns a).conn _ i (λ same. ne (same ∙ busy.conn))) own (inl refl) refl (omega arith) ok.last_is
     (subst (λ (d : Content). Each (λ m. m < d.next_container) w.given) (sym content) ok.given)
     (λ b q. ap (λ (d : Content). live (d.heaps b q)) content ∙ live_back st.view.content.heaps table rid before n.made.change.old n.old_is there b q w.current (ok.stored b q) ∙ ap (λ (f : Tables). f b q) (sym current))
-    (dictionary_same w.current w'.current st.named (λ b q c. sym (ap (λ (f : Tables). f b q) current
-    ∙ put_elsewhere w.current table rid n.made.change.old b q (elsewhere table rid b q (λ same row. both_ways _ user (subst (λ y. is_catalog y ≡ true) same c))))) ok.dictionary)
-    (described_same st.view v' st.named (λ n. ap (λ (d : Content). d.columns n) content) (ap (λ (d : Content). d.next_container) content) ok.described)) ok
+    (subst (λ y. Cataloged v' w' (left_named y st.named)) n.table_is
+    (undone_catalog st.view v' w w' l a n.made n.older st.named ok.shared top (ap (λ ms. newest_undone ms w.current) top) (ap (λ (y : Txn). y.changes) x ∙ ap rest_of top) (λ t ne. at_other w.txns a _ t ne)
+    (λ c. ap (λ (d : Content). d.columns c) content) (ap (λ (d : Content). d.next_container) content) ok.cataloged))) ok
 
 -- .. of a refused statement
 pub undoes_statement : (st : State) (last k : ℕ) (r : Session) (made : Vec ℕ Global) (v' : View) (why : Refusal) (did table : ℕ) (rid : RowId) (before : Option Slot) (rest : List Item)
@@ -263,7 +256,7 @@ pub undoes_statement : (st : State) (last k : ℕ) (r : Session) (made : Vec ℕ
     → st.view.content.changes (txn_of r) ≡ Some (Changed table rid before ∷ rest) → length (Changed table rid before ∷ rest) ≢ r.mark
     → v'.content ≡ record (taken_back st.view.content (Changed table rid before)) { changes = at_number st.view.content.changes (txn_of r) (Some rest) }
     → ((b : ℕ) → b ≢ k + 1 → v'.actors b ≡ st.view.actors b) → v'.limit ≡ st.view.limit → Holds st last
-    → Holds (record { es = st.es ++ entry.Undone r.txn did ∷ []; ls = st.ls; lock = st.lock; ss = set st.ss k (record r { made = made }); view = v'; named = st.named }) last
+    → Holds (record { es = st.es ++ entry.Undone r.txn did ∷ []; ls = st.ls; lock = st.lock; ss = set st.ss k (record r { made = made }); view = v'; named = left_named table st.named }) last
 undoes_statement st last k r made v' why did table rid before rest lt at is planned pop items more content actors limit ok =
     let w = world_of st.es in
     let w' = apply w (entry.Undone r.txn did) in
@@ -295,7 +288,7 @@ pub undoes_transaction : (st : State) (last k : ℕ) (r : Session) (made : Vec �
     → st.view.content.changes (txn_of r) ≡ Some (Changed table rid before ∷ rest)
     → v'.content ≡ record (taken_back st.view.content (Changed table rid before)) { changes = at_number st.view.content.changes (txn_of r) (Some rest) }
     → ((b : ℕ) → b ≢ k + 1 → v'.actors b ≡ st.view.actors b) → v'.limit ≡ st.view.limit → Holds st last
-    → Holds (record { es = st.es ++ entry.Undone r.txn did ∷ []; ls = st.ls; lock = st.lock; ss = set st.ss k (record r { made = made }); view = v'; named = st.named }) last
+    → Holds (record { es = st.es ++ entry.Undone r.txn did ∷ []; ls = st.ls; lock = st.lock; ss = set st.ss k (record r { made = made }); view = v'; named = left_named table st.named }) last
 undoes_transaction st last k r made v' did table rid before rest lt at is opened pop items content actors limit ok =
     let w = world_of st.es in
     let w' = apply w (entry.Undone r.txn did) in
@@ -365,13 +358,14 @@ rolled_back st last k r closed made order planned v' lt at is shut empty none en
     let busy = p.0 in
     let returnable : is_returnable (w.txns a).stage ≡ true = subst (λ q. IsStage q (w.txns a).stage) is busy.stage in
     entered st last e a k (idle_session r closed made order planned) v' last (record { session = returnable; undo = none; change = tt; refusal = tt }) tt (rolled_back_kept r.txn w l none ok.shared)
-    (stepping st last w' k r (idle_session r closed made order planned) v' lt at busy p.1 (quiet_others a w l w' refl refl (λ t ne. at_other w.txns a _ t ne))
+    (stepping st last w' k r (idle_session r closed made order planned) v' lt at busy p.1 (quiet_others a w l w' refl refl refl (λ t ne. at_other w.txns a _ t ne))
     (record {
       txns = ends.txns;
       actors = ends.actors;
       limit_same = ends.limit_same;
       heaps = λ t ne reads b q h. ends.heaps b q;
       columns = λ t ne reads b. ends.columns b;
+      next = (let same = ends.containers in omega (arith, same));
     })
     (λ i ne. at_other w.conns (w.txns a).conn _ i (λ same. ne (same ∙ busy.conn)))
     (idles w w' st.lock v' last (k + 1) r closed made order planned _ p.1 (conn_at w a (k + 1) _ busy.conn)
@@ -379,7 +373,8 @@ rolled_back st last k r closed made order planned v' lt at is shut empty none en
     (λ live. or_from _ _ (ap (λ x. not (is_leaving x)) (p.2 (shut live))) (at_conn w a (k + 1) busy.conn (λ y. y.closed) ∙ mine.closed (shut live))) refl mine.spans empty)
     (inr ends.gone) refl (omega arith) ok.last_is
     (subst (λ n. Each (λ m. m < n) w.given) (sym ends.containers) ok.given)
-    (λ b q. ap live (ends.heaps b q) ∙ ok.stored b q) ok.dictionary (described_same st.view v' st.named ends.columns ends.containers ok.described)) ok
+    (λ b q. ap live (ends.heaps b q) ∙ ok.stored b q)
+    (quiet_catalog a st.view v' w w' st.named refl ends.columns ends.containers (λ t ne. at_other w.txns a _ t ne) (inr (ap (λ (y : Txn). y.changes) (at_same w.txns a _))) ok.cataloged)) ok
 
 -- .. by an acknowledged commit
 pub acknowledged : (st : State) (last k : ℕ) (r : Session) (made : Vec ℕ Global) (order : Option Order) (planned : Plan)
@@ -397,13 +392,14 @@ acknowledged st last k r made order planned lt at is empty ok =
     let stage : (w.txns a).stage ≡ settled = subst (λ q. IsStage q (w.txns a).stage) is busy.stage in
     let reflects : Reflects false (st.view.content.changes a) (w.txns a).changes = subst (λ o. Reflects o (st.view.content.changes a) (w.txns a).changes) p.2 busy.reflects in
     entered st last e a k (idle_session r r.closed made order planned) st.view last (record { session = stage; undo = tt; change = tt; refusal = tt }) tt (acknowledged_kept r.txn w l ok.shared)
-    (stepping st last w' k r (idle_session r r.closed made order planned) st.view lt at busy p.1 (quiet_others a w l w' refl refl (λ t ne. at_other w.txns a _ t ne))
+    (stepping st last w' k r (idle_session r r.closed made order planned) st.view lt at busy p.1 (quiet_others a w l w' refl refl refl (λ t ne. at_other w.txns a _ t ne))
     (store_holds l a (k + 1) st.view st.view refl (λ b ne. refl) refl)
     (λ i ne. at_other w.conns (w.txns a).conn _ i (λ same. ne (same ∙ busy.conn)))
     (idles w w' st.lock st.view last (k + 1) r r.closed made order planned _ p.1 (conn_at w a (k + 1) _ busy.conn)
     (at_conn w a (k + 1) busy.conn (λ y. y.begun) ∙ mine.begun) (at_conn w a (k + 1) busy.conn (λ y. y.level) ∙ mine.level) (at_conn w a (k + 1) busy.conn (λ y. y.automatic) ∙ mine.automatic)
     (λ live. at_conn w a (k + 1) busy.conn (λ y. y.closed) ∙ mine.closed live) refl mine.spans empty)
-    (inr reflects.0) refl (omega arith) ok.last_is ok.given ok.stored ok.dictionary ok.described) ok
+    (inr reflects.0) refl (omega arith) ok.last_is ok.given ok.stored
+    (quiet_catalog a st.view st.view w w' st.named refl (λ n. refl) refl (λ t ne. at_other w.txns a _ t ne) (inl (ap (λ (y : Txn). y.changes) (at_same w.txns a _))) ok.cataloged)) ok
 
 -- ALL LOCKS GO, and what can be granted is granted, all at one place
 pub releases : (st : State) (last place : ℕ) (a : TxnNo) (old new : LockTable) → place ≡ length st.es → lock old ≡ st.lock → ((world_of st.es).txns a.0).stage ≡ over → ((world_of st.es).txns a.0).changes ≡ []
@@ -502,12 +498,12 @@ own_pages st last k r v' lt at busy quiet content actors limit phase ok =
     let w = world_of st.es in
     let mine = own_session st last k r lt at ok in
     moved st last (txn_of r) k r v' (stepping st last w k r r v' lt at busy quiet
-    (λ t ne. record { txn = refl; reads = λ table rid h. h; writes = λ table rid h. h; committed = λ table rid h. refl; current = λ table rid h. refl; whole = λ h table rid. (refl, refl) })
+    (λ t ne. record { txn = refl; reads = λ table rid h. h; writes = λ table rid h. h; committed = λ table rid h. refl; current = λ table rid h. refl; whole = λ h table rid. (refl, refl); given = λ h. refl })
     (store_holds (locks_of st.lock.grants) (txn_of r) (k + 1) st.view v' content actors limit) (λ i ne. refl)
     (record { begun = mine.begun; level = mine.level; automatic = mine.automatic; closed = mine.closed; spans = mine.spans; phase = phase })
     (inl refl) refl (omega arith) ok.last_is
     (subst (λ (x : Content). Each (λ n. n < x.next_container) w.given) (sym content) ok.given)
-    (λ table rid. ap (λ (x : Content). live (x.heaps table rid)) content ∙ ok.stored table rid) ok.dictionary (described_same st.view v' st.named (λ n. ap (λ (x : Content). x.columns n) content) (ap (λ (d : Content). d.next_container) content) ok.described)) ok
+    (λ table rid. ap (λ (x : Content). live (x.heaps table rid)) content ∙ ok.stored table rid) (still_catalog st.view v' w st.named content ok.cataloged)) ok
 
 pub busy_pages : (w : World) (l : Lock) (v v' : View) (last c : ℕ) (r : Session) → v'.content ≡ v.content → Busy w l v last c r → Busy w l v' last c r
 busy_pages w l v v' last c r e h = record {
@@ -519,7 +515,6 @@ busy_pages w l v v' last c r e h = record {
   numbers = h.numbers;
   reflects = subst (λ (d : Content). Reflects r.opened (d.changes (txn_of r)) (w.txns (txn_of r)).changes) (sym e) h.reflects;
   slots = subst (λ (d : Content). Each (λ m. d.heaps m.change.table m.change.rid ≢ None) (w.txns (txn_of r)).changes) (sym e) h.slots;
-  users = h.users;
   containers = subst (λ (d : Content). MakesAlone w.committed l (txn_of r) (changes_in (d.changes (txn_of r))) (w.txns (txn_of r)).changes) (sym e) h.containers;
   idle = h.idle;
 }
@@ -584,7 +579,7 @@ gives_up st last k r lt at is ok =
     let busy = p.0 in
     let rests : (w.txns (txn_of r)).stage ≡ resting = subst (λ q. IsStage q (w.txns (txn_of r)).stage) is busy.stage in
     moved st last (txn_of r) k s' st.view (stepping st last w k r s' st.view lt at busy p.1
-    (λ t ne. record { txn = refl; reads = λ table rid h. h; writes = λ table rid h. h; committed = λ table rid h. refl; current = λ table rid h. refl; whole = λ h table rid. (refl, refl) })
+    (λ t ne. record { txn = refl; reads = λ table rid h. h; writes = λ table rid h. h; committed = λ table rid h. refl; current = λ table rid h. refl; whole = λ h table rid. (refl, refl); given = λ h. refl })
     (store_holds (locks_of st.lock.grants) (txn_of r) (k + 1) st.view st.view refl (λ b ne. refl) refl) (λ i ne. refl)
     (record {
       begun = mine.begun;
@@ -602,7 +597,6 @@ gives_up st last k r lt at is ok =
           numbers = busy.numbers;
           reflects = busy.reflects;
           slots = busy.slots;
-          users = busy.users;
           containers = busy.containers;
           idle = busy.idle;
         },
@@ -610,4 +604,4 @@ gives_up st last k r lt at is ok =
         λ live. absurd (both_ways true live refl),
       );
     })
-    (inl refl) refl (omega arith) ok.last_is ok.given ok.stored ok.dictionary ok.described) ok
+    (inl refl) refl (omega arith) ok.last_is ok.given ok.stored ok.cataloged) ok

@@ -37,6 +37,7 @@ use Rattle.session_engine.specs.Noted.{noted}
 use Rattle.session_engine.specs.State.{State, Holds, SessionHolds, Busy, LockKept, Waits, scripts_of, events_of, world_of, txn_of, times_in}
 use Rattle.session_engine.proofs.StableLemmas.{session_kept}
 use Rattle.session_engine.proofs.QueueLemmas.{asks_of, find_here, find_later, find_kept, find_without_one, times_append, times_fewer, zero_none, queue_granted, queue_released}
+use Rattle.session_engine.proofs.ListedLemmas.{still_catalog}
 use Rattle.session_engine.proofs.MoveLemmas.{waits_kept, among_set, among_at, scripts_same}
 
 fold_push : (l : Lock) (ls : List Locked) (e : Locked) → apply_all l (events_of (ls ++ e ∷ [])) ≡ apply (apply_all l (events_of ls)) e.event
@@ -70,8 +71,7 @@ evented st last e ss' v' place proper due shared alone waits scripts each conten
   known = known;
   holders = holders;
   few = few;
-  dictionary = ok.dictionary;
-  described = λ x a. (ap (λ (d : Content). d.columns x.1.number) content ∙ (ok.described x a).0, subst (λ (d : Content). x.1.number < d.next_container) (sym content) (ok.described x a).1);
+  cataloged = still_catalog st.view v' (world_of st.es) st.named content ok.cataloged;
 }
 
 -- WHAT AN EVENT LEAVES TO OTHERS
@@ -188,6 +188,7 @@ locked st last e t k s' v' h ok =
             actor = h.actors (i + 1) other;
             heaps = λ r table rid x. ap (λ (c : Content). c.heaps table rid) h.content;
             columns = λ r table. ap (λ (c : Content). c.columns table) h.content;
+            next = (let same = ap (λ (c : Content). c.next_container) h.content in omega (arith, same));
           }) (omega arith) (omega arith) (ok.each i d in_ss))
     ])
     h.content
@@ -212,7 +213,7 @@ still : (st : State) (last : ℕ) (e : Locked) → e.place ≡ length st.es → 
 still st last e place proper due shared alone waits others beside ok =
     evented st last e st.ss st.view place proper due shared alone waits refl
     (λ i d lt. session_kept (world_of st.es) st.lock st.view (world_of st.es) (apply st.lock e.event) st.view last last (i + 1) (get_or st.ss i d) ok.shared refl
-    (λ b. record { others = others (i + 1) (get_or st.ss i d) b; locks = beside (i + 1) (get_or st.ss i d) b; changes = refl; actor = refl; heaps = λ r table rid x. refl; columns = λ r table. refl }) (omega arith) (omega arith) (ok.each i d lt))
+    (λ b. record { others = others (i + 1) (get_or st.ss i d) b; locks = beside (i + 1) (get_or st.ss i d) b; changes = refl; actor = refl; heaps = λ r table rid x. refl; columns = λ r table. refl; next = omega arith }) (omega arith) (omega arith) (ok.each i d lt))
     refl ok.known ok.holders ok.few ok
 
 -- SERVED. One request among the others

@@ -52,23 +52,18 @@ fill_at st last k r fill h =
     let p = phase_at Working (world_of st.es) st.lock st.view last (k + 1) r h.phase (own_session st last k r h.within h.at h.holds) in
     (p.0, p.1, p.2, subst (Works (world_of st.es) st.lock st.view (k + 1) r) h.planned p.3)
 
--- its own changes, and all changes of the engine, are of users' tables: the catalog is as it was committed
-pub off_catalog : (ms : List Made) (f : Tables) (table : ℕ) (rid : RowId) → AreUsers ms → is_catalog table ≡ true → laid_over ms f table rid ≡ f table rid
-off_catalog [] f table rid h c = refl
-off_catalog (m ∷ ms) f table rid h c =
-    put_elsewhere (laid_over ms f) m.change.table m.change.rid m.change.new table rid (elsewhere m.change.table m.change.rid table rid (λ same row. both_ways _ h.0 (subst (λ y. is_catalog y ≡ true) same c))) ∙ off_catalog ms f table rid h.1 c
-
-users_after : (own base : List Made) → AreUsers (own ++ base) → AreUsers base
-users_after [] base h = h
-users_after (m ∷ own) base h = users_after own base h.1
+-- its own changes are of a user's table
+pub off_catalog : (own base : List Made) (f : Tables) (table : ℕ) (rid : RowId) → AreUsers own → is_catalog table ≡ true → laid_over (own ++ base) f table rid ≡ laid_over base f table rid
+off_catalog [] base f table rid h c = refl
+off_catalog (m ∷ own) base f table rid h c =
+    put_elsewhere (laid_over (own ++ base) f) m.change.table m.change.rid m.change.new table rid (elsewhere m.change.table m.change.rid table rid (λ same row. both_ways _ h.0 (subst (λ y. is_catalog y ≡ true) same c))) ∙ off_catalog own base f table rid h.1 c
 
 -- so what it sees of the catalog is what stands
 pub fill_catalog : (st : State) (last k : ℕ) (r : Session) (fill : Fill) → Filling st last k r fill → SameCatalog (seen (world_of st.es) (txn_of r)) (laid_over ((world_of st.es).txns (txn_of r)).changes (world_of st.es).committed)
 fill_catalog st last k r fill h table rid c =
     let w = world_of st.es in
-    let p = fill_at st last k r fill h in
-    let base : AreUsers (w.txns (txn_of r)).begun = users_after p.3.stands.own (w.txns (txn_of r)).begun (subst AreUsers p.3.stands.changes_are p.0.users) in
-    off_catalog (w.txns (txn_of r)).begun w.committed table rid base c ∙ sym (off_catalog (w.txns (txn_of r)).changes w.committed table rid p.0.users c)
+    let f = (fill_at st last k r fill h).3 in
+    sym (ap (λ ms. laid_over ms w.committed table rid) f.stands.changes_are ∙ off_catalog f.stands.own (w.txns (txn_of r)).begun w.committed table rid f.users c)
 
 fill_current : (st : State) (last k : ℕ) (r : Session) (fill : Fill) → Filling st last k r fill → SameCatalog (seen (world_of st.es) (txn_of r)) (world_of st.es).current
 fill_current st last k r fill h table rid c =
@@ -82,7 +77,7 @@ fill_columns st last k r fill h =
     let w = world_of st.es in
     let s = (fill_at st last k r fill h).3.inserts in
     let defined = defines_same (seen w (txn_of r)) w.current (fill_current st last k r fill h) s.suits.target.def s.suits.target.defined in
-    ap st.view.content.columns (sym s.number) ∙ (h.holds.described (named_of s.suits.target.def) (h.holds.dictionary.only s.suits.target.def defined)).0
+    ap st.view.content.columns (sym s.number) ∙ (h.holds.cataloged.described (named_of s.suits.target.def) (h.holds.cataloged.dictionary.only s.suits.target.def defined)).0
 
 pub fill_described : (st : State) (last k : ℕ) (r : Session) (fill : Fill) → Filling st last k r fill → st.view.content.columns fill.number ≢ None
 fill_described st last k r fill h none = (let e : None ≡ Some (fill_at st last k r fill h).3.inserts.suits.target.def.columns = sym none ∙ fill_columns st last k r fill h in cc)
@@ -131,6 +126,7 @@ fill_on st last k r fill b v' h m room =
         mirrors_own = f.stands.mirrors_own;
         mirrors_base = f.stands.mirrors_base;
       };
+      users = f.users;
       done = f.done;
       rest = f.rest;
       puts = f.puts;
@@ -193,12 +189,18 @@ pub fill_spent : (st : State) (last k : ℕ) (r : Session) (fill : Fill) (why : 
     → Holds (record { es = st.es; ls = st.ls; lock = st.lock; ss = set st.ss k (record r { phase = Refusing; plan = plan.Refuse (Sql why []) }); view = v'; named = st.named }) last
 fill_spent st last k r fill why v' h m spent = fill_fails st last k r fill r.made (Sql why []) v' h m refl (spent_shows (world_of st.es) st.lock r why spent)
 
--- THE ENGINE, whole
-pub engine_with : {Z : Type 0} (entries entries' : Vec Entry Z) (events : Vec Locked Z) (locks : LockTable) (ss : List Session) (v v' : View) (named : List Named) (last owed owed' owed_events k : ℕ) (r s' : Session)
+-- THE ENGINE, whole, with the dictionary behind the step
+pub engine_listing : {Z : Type 0} (entries entries' : Vec Entry Z) (events : Vec Locked Z) (locks : LockTable) (ss : List Session) (v v' : View) (named named' : List Named) (last owed owed' owed_events k : ℕ) (r s' : Session)
     → EngineHolds entries events locks ss v named last owed owed_events → k < length ss → r ≡ get_or ss k r → owed' + entries_of r ≡ owed + entries_of s' → releases_of s' ≡ releases_of r → vec_len entries' + owed' ≤ vec_capacity entries'
-    → Holds (state_of entries' events locks (set ss k s') v' named) last → EngineHolds entries' events locks (set ss k s') v' named last owed' owed_events
-engine_with entries entries' events locks ss v v' named last owed owed' owed_events k r s' h lt at more same fit holds = record {
+    → Holds (state_of entries' events locks (set ss k s') v' named') last → EngineHolds entries' events locks (set ss k s') v' named' last owed' owed_events
+engine_listing entries entries' events locks ss v v' named named' last owed owed' owed_events k r s' h lt at more same fit holds = record {
   holds = holds;
   room = room_after entries entries' events events ss (lock locks) (lock locks) owed owed_events owed' owed_events k r s' h.room lt at more (omega (arith, same)) fit h.room.events_fit;
   woken = h.woken;
 }
+
+-- .. and as it was
+pub engine_with : {Z : Type 0} (entries entries' : Vec Entry Z) (events : Vec Locked Z) (locks : LockTable) (ss : List Session) (v v' : View) (named : List Named) (last owed owed' owed_events k : ℕ) (r s' : Session)
+    → EngineHolds entries events locks ss v named last owed owed_events → k < length ss → r ≡ get_or ss k r → owed' + entries_of r ≡ owed + entries_of s' → releases_of s' ≡ releases_of r → vec_len entries' + owed' ≤ vec_capacity entries'
+    → Holds (state_of entries' events locks (set ss k s') v' named) last → EngineHolds entries' events locks (set ss k s') v' named last owed' owed_events
+engine_with entries entries' events locks ss v v' named = engine_listing entries entries' events locks ss v v' named named

@@ -2,6 +2,11 @@ pub mod ScanLemmas
 pub mod LookupLemmas
 pub mod StableLemmas
 pub mod QueueLemmas
+pub mod NextLemmas
+pub mod ColumnLemmas
+pub mod ListedLemmas
+pub mod CatalogLemmas
+pub mod ListingLemmas
 pub mod MoveLemmas
 pub mod EventLemmas
 pub mod StepLemmas
@@ -20,10 +25,11 @@ pub mod FitLemmas
 pub mod BindLemmas
 pub mod ReadLemmas
 pub mod FillLemmas
-pub mod ColumnLemmas
 pub mod PutLemmas
 pub mod InsertLemmas
 pub mod KeptLemmas
 pub mod RunLemmas
 pub mod ContainerLemmas
+pub mod SmallLemmas
 pub mod MakeLemmas
+pub mod LayLemmas

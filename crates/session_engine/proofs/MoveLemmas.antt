@@ -26,8 +26,9 @@ use Rattle.session_model.proofs.BaseLemmas.{replay_push}
 use Rattle.session_model.proofs.FitLemmas.{SameCatalog, defines_same}
 use Rattle.session_model.proofs.GrowingLemmas.{legal_entry}
 use Rattle.session_engine.specs.declared.session.Session.{Session}
-use Rattle.session_engine.specs.Dictionary.{Named, Among, IsDictionary}
-use Rattle.session_engine.specs.State.{State, AreDescribed, Holds, SessionHolds, Busy, LockKept, Waits, scripts_of, world_of, txn_of}
+use Rattle.session_engine.specs.Dictionary.{Named, Among}
+use Rattle.session_engine.specs.Listed.{Cataloged}
+use Rattle.session_engine.specs.State.{State, Holds, SessionHolds, Busy, LockKept, Waits, scripts_of, world_of, txn_of}
 use Rattle.session_engine.proofs.StableLemmas.{session_kept, catalog_kept}
 
 -- NUMBERS OF TRANSACTIONS that the connections have
@@ -53,6 +54,7 @@ pub record StoreMoves (l : Locks) (a c : ℕ) (v v' : View) : Type 0 where
   pub limit_same : v'.limit ≡ v.limit
   pub heaps : (t : ℕ) → t ≢ a → ReadsCatalog l t → (table : ℕ) (rid : RowId) → l.reads t table rid ≡ true → v'.content.heaps table rid ≡ v.content.heaps table rid
   pub columns : (t : ℕ) → t ≢ a → ReadsCatalog l t → (table : ℕ) → v'.content.columns table ≡ v.content.columns table
+  pub next : v.content.next_container ≤ v'.content.next_container
 
 -- it only holds other pages
 pub store_holds : (l : Locks) (a c : ℕ) (v v' : View) → v'.content ≡ v.content → ((b : ℕ) → b ≢ c → v'.actors b ≡ v.actors b) → v'.limit ≡ v.limit → StoreMoves l a c v v'
@@ -62,6 +64,7 @@ store_holds l a c v v' same actors limit = record {
   limit_same = limit;
   heaps = λ t ne r table rid x. ap (λ (d : Content). d.heaps table rid) same;
   columns = λ t ne r table. ap (λ (d : Content). d.columns table) same;
+  next = (let e = ap (λ (d : Content). d.next_container) same in omega (arith, e));
 }
 
 pub lock_same : (t : TxnNo) (l : Lock) → LockKept t l l
@@ -110,12 +113,8 @@ pins_hold w l s = record {
   commits = s.commits;
 }
 
--- the tables stay described, where no column list changes
-pub described_same : (v v' : View) (named : List Named) → ((n : ℕ) → v'.content.columns n ≡ v.content.columns n) → v'.content.next_container ≡ v.content.next_container → AreDescribed v named → AreDescribed v' named
-described_same v v' named same next h = λ e a. (same e.1.number ∙ (h e a).0, subst (λ n. e.1.number < n) (sym next) (h e a).1)
-
--- WHAT A STEP OWES: of transaction a, by the connection at place k, whose session becomes s'
-pub record Stepping (st : State) (last : ℕ) (w' : World) (a k : ℕ) (s' : Session) (v' : View) (last' : ℕ) : Type 0 where
+-- WHAT A STEP OWES: of transaction a, by the connection at place k, whose session becomes s', with the dictionary behind it
+pub record Stepping (st : State) (last : ℕ) (w' : World) (a k : ℕ) (s' : Session) (v' : View) (last' : ℕ) (named' : List Named) : Type 0 where
   pub within : k < length st.ss
   pub positive : 1 ≤ a
   pub others : (t : ℕ) → t ≢ a → Others t (world_of st.es) (locks_of st.lock.grants) w' (locks_of st.lock.grants)
@@ -133,13 +132,12 @@ pub record Stepping (st : State) (last : ℕ) (w' : World) (a k : ℕ) (s' : Ses
   pub below : a ≤ last'
   pub given : Each (λ n. n < v'.content.next_container) w'.given
   pub stored : (table : ℕ) (rid : RowId) → live (v'.content.heaps table rid) ≡ w'.current table rid
-  pub dictionary : IsDictionary w'.current st.named
-  pub described : AreDescribed v' st.named
+  pub cataloged : Cataloged v' w' named'
 
 -- the parts that are the same whether there is an entry or not
-each_after : (st : State) (last : ℕ) (w' : World) (a k : ℕ) (s' : Session) (v' : View) (last' : ℕ) → Stepping st last w' a k s' v' last' → Holds st last
+each_after : (st : State) (last : ℕ) (w' : World) (a k : ℕ) (s' : Session) (v' : View) (last' : ℕ) (named' : List Named) → Stepping st last w' a k s' v' last' named' → Holds st last
     → (i : ℕ) (d : Session) → i < length (set st.ss k s') → SessionHolds w' st.lock v' last' (i + 1) (get_or (set st.ss k s') i d)
-each_after st last w' a k s' v' last' h ok i d i_lt = elim (cases_eq i k) [
+each_after st last w' a k s' v' last' named' h ok i d i_lt = elim (cases_eq i k) [
   | inl same ↦ subst (λ j. SessionHolds w' st.lock v' last' (j + 1) (get_or (set st.ss k s') j d)) (sym same) (subst (SessionHolds w' st.lock v' last' (k + 1)) (sym (get_or-set_same st.ss k s' d h.within)) h.own)
   | inr ne ↦
       let s = get_or st.ss i d in
@@ -153,12 +151,13 @@ each_after st last w' a k s' v' last' h ok i d i_lt = elim (cases_eq i k) [
         actor = h.store.actors (i + 1) other;
         heaps = h.store.heaps (txn_of s) (h.apart (i + 1) s other b);
         columns = h.store.columns (txn_of s) (h.apart (i + 1) s other b);
+        next = h.store.next;
       }) h.grows h.more (ok.each i d in_ss))
 ]
 
-known_after : (st : State) (last : ℕ) (w' : World) (a k : ℕ) (s' : Session) (v' : View) (last' : ℕ) → Stepping st last w' a k s' v' last' → Holds st last
+known_after : (st : State) (last : ℕ) (w' : World) (a k : ℕ) (s' : Session) (v' : View) (last' : ℕ) (named' : List Named) → Stepping st last w' a k s' v' last' named' → Holds st last
     → (t : ℕ) → v'.content.changes t ≢ None → Among t (map txn_of (set st.ss k s'))
-known_after st last w' a k s' v' last' h ok t open_there = elim (cases_eq t a) [
+known_after st last w' a k s' v' last' named' h ok t open_there = elim (cases_eq t a) [
   | inl same ↦ elim h.has [
     | inl mine ↦ subst (λ x. Among x (map txn_of (set st.ss k s'))) (mine ∙ sym same) (among_at st.ss k s' h.within)
     | inr none ↦ absurd (open_there (ap v'.content.changes same ∙ none))
@@ -171,9 +170,9 @@ known_after st last w' a k s' v' last' h ok t open_there = elim (cases_eq t a) [
       ]) (ok.known t before)
 ]
 
-holders_after : (st : State) (last : ℕ) (w' : World) (a k : ℕ) (s' : Session) (v' : View) (last' : ℕ) → Stepping st last w' a k s' v' last' → Holds st last
+holders_after : (st : State) (last : ℕ) (w' : World) (a k : ℕ) (s' : Session) (v' : View) (last' : ℕ) (named' : List Named) → Stepping st last w' a k s' v' last' named' → Holds st last
     → (b : ℕ) → (v'.actors b).pages ≢ 0 → (1 ≤ b) × (b ≤ length (set st.ss k s'))
-holders_after st last w' a k s' v' last' h ok b holds =
+holders_after st last w' a k s' v' last' named' h ok b holds =
     let same_length = length-set st.ss k s' in
     let within : k < length st.ss = h.within in
     elim (cases_eq b (k + 1)) [
@@ -181,24 +180,24 @@ holders_after st last w' a k s' v' last' h ok b holds =
       | inr ne ↦ (let p = ok.holders b (λ e. holds (ap (λ x. x.pages) (h.store.actors b ne) ∙ e)) in (p.0, omega (arith, same_length, p.1)))
     ]
 
-fresh_after : (st : State) (last : ℕ) (w' : World) (a k : ℕ) (s' : Session) (v' : View) (last' : ℕ) → Stepping st last w' a k s' v' last' → Holds st last
+fresh_after : (st : State) (last : ℕ) (w' : World) (a k : ℕ) (s' : Session) (v' : View) (last' : ℕ) (named' : List Named) → Stepping st last w' a k s' v' last' named' → Holds st last
     → (t : ℕ) → last' < t → w'.txns t ≡ no_txn
-fresh_after st last w' a k s' v' last' h ok t above =
+fresh_after st last w' a k s' v' last' named' h ok t above =
     let below : a ≤ last' = h.below in
     let grows : last ≤ last' = h.grows in
     (h.others t (λ same. omega (arith, above, below, same))).txn ∙ ok.fresh t (omega (arith, above, grows))
 
-waits_after : (st : State) (last : ℕ) (w' : World) (a k : ℕ) (s' : Session) (v' : View) (last' : ℕ) → Stepping st last w' a k s' v' last' → Holds st last
+waits_after : (st : State) (last : ℕ) (w' : World) (a k : ℕ) (s' : Session) (v' : View) (last' : ℕ) (named' : List Named) → Stepping st last w' a k s' v' last' named' → Holds st last
     → All (Waits w' st.lock) (queue st.lock)
-waits_after st last w' a k s' v' last' h ok = λ i d lt.
+waits_after st last w' a k s' v' last' named' h ok = λ i d lt.
     waits_kept (world_of st.es) st.lock w' st.lock (get_or (queue st.lock) i d) (h.others (get_or (queue st.lock) i d).txn.0 (h.free i d lt)) (ok.waits i d lt)
 
 -- ONE ENTRY
-pub entered : (st : State) (last : ℕ) (e : Entry) (a k : ℕ) (s' : Session) (v' : View) (last' : ℕ)
+pub entered_with : (st : State) (last : ℕ) (e : Entry) (a k : ℕ) (s' : Session) (v' : View) (last' : ℕ) (named' : List Named)
     → EntryHolds (scripts_of st.ss) (world_of st.es) e → AnswersHold no_tables st.es e → Shared (apply (world_of st.es) e) (locks_of st.lock.grants)
-    → Stepping st last (apply (world_of st.es) e) a k s' v' last' → Holds st last
-    → Holds (record { es = st.es ++ e ∷ []; ls = st.ls; lock = st.lock; ss = set st.ss k s'; view = v'; named = st.named }) last'
-entered st last e a k s' v' last' entry span shared h ok =
+    → Stepping st last (apply (world_of st.es) e) a k s' v' last' named' → Holds st last
+    → Holds (record { es = st.es ++ e ∷ []; ls = st.ls; lock = st.lock; ss = set st.ss k s'; view = v'; named = named' }) last'
+entered_with st last e a k s' v' last' named' entry span shared h ok =
     let w' = apply (world_of st.es) e in
     let at : w' ≡ world_of (st.es ++ e ∷ []) = sym (replay_push (opening no_tables) st.es e) in
     let scripts : scripts_of (set st.ss k s') ≡ scripts_of st.ss = scripts_same st.ss k s' s' (h.script s') in
@@ -209,23 +208,29 @@ entered st last e a k s' v' last' entry span shared h ok =
       apart = ok.apart;
       fold = ok.fold;
       alone = ok.alone;
-      waits = subst (λ v. All (Waits v st.lock) (queue st.lock)) at (waits_after st last w' a k s' v' last' h ok);
-      each = subst (λ v. (i : ℕ) (d : Session) → i < length (set st.ss k s') → SessionHolds v st.lock v' last' (i + 1) (get_or (set st.ss k s') i d)) at (each_after st last w' a k s' v' last' h ok);
+      waits = subst (λ v. All (Waits v st.lock) (queue st.lock)) at (waits_after st last w' a k s' v' last' named' h ok);
+      each = subst (λ v. (i : ℕ) (d : Session) → i < length (set st.ss k s') → SessionHolds v st.lock v' last' (i + 1) (get_or (set st.ss k s') i d)) at (each_after st last w' a k s' v' last' named' h ok);
       last_is = ap (λ v. v.last) (sym at) ∙ h.last_is;
-      fresh = λ t above. ap (λ v. v.txns t) (sym at) ∙ fresh_after st last w' a k s' v' last' h ok t above;
+      fresh = λ t above. ap (λ v. v.txns t) (sym at) ∙ fresh_after st last w' a k s' v' last' named' h ok t above;
       given = subst (λ v. Each (λ n. n < v'.content.next_container) v.given) at h.given;
       stored = λ table rid. h.stored table rid ∙ ap (λ v. v.current table rid) at;
       zero = h.store.txns 0 (λ z. let p : 1 ≤ a = h.positive in omega (arith, z, p)) ∙ ok.zero;
-      known = known_after st last w' a k s' v' last' h ok;
-      holders = holders_after st last w' a k s' v' last' h ok;
+      known = known_after st last w' a k s' v' last' named' h ok;
+      holders = holders_after st last w' a k s' v' last' named' h ok;
       few = (let same = length-set st.ss k s' in let few = ok.few in let lim = h.store.limit_same in omega (arith, same, few, lim));
-      dictionary = subst (λ v. IsDictionary v.current st.named) at h.dictionary;
-      described = h.described;
+      cataloged = subst (λ v. Cataloged v' v named') at h.cataloged;
     }
+
+-- .. that leaves the dictionary as it is
+pub entered : (st : State) (last : ℕ) (e : Entry) (a k : ℕ) (s' : Session) (v' : View) (last' : ℕ)
+    → EntryHolds (scripts_of st.ss) (world_of st.es) e → AnswersHold no_tables st.es e → Shared (apply (world_of st.es) e) (locks_of st.lock.grants)
+    → Stepping st last (apply (world_of st.es) e) a k s' v' last' st.named → Holds st last
+    → Holds (record { es = st.es ++ e ∷ []; ls = st.ls; lock = st.lock; ss = set st.ss k s'; view = v'; named = st.named }) last'
+entered st last e a k s' v' last' = entered_with st last e a k s' v' last' st.named
 
 -- NO ENTRY
 pub moved : (st : State) (last : ℕ) (a k : ℕ) (s' : Session) (v' : View)
-    → Stepping st last (world_of st.es) a k s' v' last → Holds st last
+    → Stepping st last (world_of st.es) a k s' v' last st.named → Holds st last
     → Holds (record { es = st.es; ls = st.ls; lock = st.lock; ss = set st.ss k s'; view = v'; named = st.named }) last
 moved st last a k s' v' h ok =
     let w' = world_of st.es in
@@ -237,15 +242,14 @@ moved st last a k s' v' h ok =
       fold = ok.fold;
       alone = ok.alone;
       waits = ok.waits;
-      each = each_after st last w' a k s' v' last h ok;
+      each = each_after st last w' a k s' v' last st.named h ok;
       last_is = ok.last_is;
       fresh = ok.fresh;
       given = h.given;
       stored = h.stored;
       zero = h.store.txns 0 (λ z. let p : 1 ≤ a = h.positive in omega (arith, z, p)) ∙ ok.zero;
-      known = known_after st last w' a k s' v' last h ok;
-      holders = holders_after st last w' a k s' v' last h ok;
+      known = known_after st last w' a k s' v' last st.named h ok;
+      holders = holders_after st last w' a k s' v' last st.named h ok;
       few = (let same = length-set st.ss k s' in let few = ok.few in let lim = h.store.limit_same in omega (arith, same, few, lim));
-      dictionary = h.dictionary;
-      described = h.described;
+      cataloged = h.cataloged;
     }

@@ -10,7 +10,7 @@ use Rattle.lock_modes.specs.declared.mode.Mode.TheVariants.{S2, S3, U2, U3, Ip, 
 use Rattle.lock_modes.specs.Lock.{no_locks}
 use Rattle.lock_modes.specs.Modes.{has_mode, no_modes}
 use Rattle.store_api.specs.View.{View}
-use Rattle.journal_model.specs.Catalog.{Defines}
+use Rattle.journal_model.specs.Catalog.{Defines, table_row}
 use Rattle.journal_model.specs.Legal.{CommitsFit}
 use Rattle.journal_model.specs.declared.journal.Entry.{Entry}
 use Rattle.session_model.specs.declared.journal.Locked.{Locked}
@@ -37,7 +37,7 @@ scripts_length [] = refl
 scripts_length (s ∷ ss) = ap suc (scripts_length ss)
 
 -- NOTHING IS WRITTEN YET
-none_defined : (d : TableDef) → Defines no_tables d → ⊥
+pub none_defined : (d : TableDef) → Defines no_tables d → ⊥
 none_defined d h = (let e : None ≡ Some _ = h.table.1 in cc)
 
 none_fit : CommitsFit no_tables
@@ -117,8 +117,15 @@ opened ss v new empty few = record {
   known = λ t h. absurd (h (empty.changes t));
   holders = λ b h. absurd (h (empty.held b));
   few = few;
-  dictionary = record { there = λ e a. absurd a; only = λ d h. absurd (none_defined d h); user = λ e a. absurd a };
-  described = λ e a. absurd a;
+  cataloged = record {
+    dictionary = record { there = λ e a. absurd a; only = λ d h. absurd (none_defined d h); user = λ e a. absurd a };
+    described = λ e a. absurd a;
+    catalogs = empty.catalogs;
+    listed = λ rid row at. (let none : None ≡ Some row = at in cc);
+    once = λ q r n a b x y. (let none : None ≡ Some (table_row n a) = x in cc);
+    numbered = λ rid row n at of. (let none : None ≡ Some row = at in cc);
+    lists = λ t. tt;
+  };
 }
 
 -- and nothing is owed

@@ -66,7 +66,7 @@ scan_described st last k r scan h none =
     let s = (scan_at st last k r scan h).3.selects in
     let same = other_way w.current (seen w (txn_of r)) (sees_current w st.lock (txn_of r) h.holds.shared s.catalog s.unchanged) in
     let defined = defines_same (seen w (txn_of r)) w.current same s.target.def s.target.defined in
-    let there = (h.holds.described (named_of s.target.def) (h.holds.dictionary.only s.target.def defined)).0 in
+    let there = (h.holds.cataloged.described (named_of s.target.def) (h.holds.cataloged.dictionary.only s.target.def defined)).0 in
     let e : None ≡ Some s.target.def.columns = sym none ∙ ap st.view.content.columns (sym s.number) ∙ there in
     cc
 

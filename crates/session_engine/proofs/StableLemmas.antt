@@ -2,7 +2,10 @@
 use Rattle.std.proofs.Common.{◌≡◌, ◌≢◌, ℕ, ◌<◌, ◌≤◌, List, [], ◌∷◌, ◌++◌, length, true, sym, ◌∙◌, ap, subst, arith, inl, inr, Option, Some, None}
 use Rattle.std.specs.Prelude.{map}
 use Rattle.std.proofs.lemmas.Bool.{or_right}
+use Rattle.dby_types.specs.declared.definition.ColumnDef.{ColumnDef}
+use Rattle.dby_types.specs.declared.definition.TableDef.{TableDef}
 use Rattle.dby_types.specs.declared.number.RowId.{RowId}
+use Rattle.dby_types.specs.declared.number.TxnNo.{TxnNo}
 use Rattle.lock_modes.specs.declared.mode.Mode.{Mode}
 use Rattle.lock_modes.specs.declared.mode.Mode.TheVariants.{TS, TX}
 use Rattle.lock_modes.specs.declared.name.LockName.{LockName}
@@ -34,7 +37,7 @@ use Rattle.session_engine.specs.declared.session.Fill.{Fill}
 use Rattle.session_engine.specs.declared.session.Make.{Make}
 use Rattle.session_engine.specs.declared.session.Session.{Session}
 use Rattle.session_engine.proofs.ScanLemmas.{scanned_same}
-use Rattle.session_engine.specs.State.{IsStage, Reflects, Stands, HaveSlots, AreUsers, AreNew, MakesAlone, Busy, IsPromised, Runs, Asks, Prepares, Commands, Selects, Scans, Inserts, Fills, Bears, Makes, Waiting, Mirrors, Claims, IsShown, Refuses, Works, RefusesFor, PhaseHolds, SessionHolds, LockKept, Beside, txn_of}
+use Rattle.session_engine.specs.State.{IsStage, Reflects, Stands, HaveSlots, AreNew, MakesAlone, Busy, IsPromised, Runs, Asks, Prepares, Commands, Selects, Scans, Inserts, Fills, Bears, HasFirst, IsFounded, Makes, Waiting, Mirrors, Claims, IsShown, Refuses, Works, RefusesFor, PhaseHolds, SessionHolds, LockKept, Beside, txn_of}
 
 each_both : {X : Type 0} → (P R Q : X → Type 0) → ((x : X) → P x → R x → Q x) → (xs : List X) → Each P xs → Each R xs → Each Q xs
 each_both P R Q f [] h k = tt
@@ -193,6 +196,7 @@ fills_kept w l v w' l' v' c s fill b more h = record {
   inserts = inserts_kept w l v w' l' v' c s fill b more h.inserts;
   writes = λ rid. b.others.writes fill.number rid (h.writes rid);
   stands = stands_kept w w' v v' s b.others.txn b.changes h.stands;
+  users = h.users;
   done = h.done;
   rest = h.rest;
   puts = h.puts;
@@ -219,15 +223,39 @@ bears_kept w l v w' l' v' c s make b more h = let e = b.others.txn in record {
   few = h.few;
 }
 
-makes_kept : (w : World) (l : Lock) (v : View) (w' : World) (l' : Lock) (v' : View) (c : ℕ) (s : Session) (make : Make) → Beside s.txn c w l v w' l' v' → w.count ≤ w'.count → Makes w l v s make → Makes w' l' v' s make
+-- the table that it makes is as unknown as it was: nothing changes beside it
+first_same : (f g : Tables) (number done : ℕ) (columns : List ColumnDef) → ((rid : RowId) → g 2 rid ≡ f 2 rid) → HasFirst f number done columns → HasFirst g number done columns
+first_same f g number done columns same h = record {
+  each = λ place c lt at. let x = h.each place c lt at in (x.0, same x.0 ∙ x.1);
+  only = λ rid row at is. h.only rid row (sym (same rid) ∙ at) is;
+}
+
+founded_kept : (w : World) (l : Lock) (v : View) (w' : World) (l' : Lock) (v' : View) (t : TxnNo) (c : ℕ) (def : TableDef) (done : ℕ) → Beside t c w l v w' l' v' → WritesCatalog (locks_of l.grants) t.0
+    → IsFounded w v def done → IsFounded w' v' def done
+founded_kept w l v w' l' v' t c def done b alone h =
+    let same : (table : ℕ) (rid : RowId) → w'.current table rid ≡ w.current table rid = λ table rid. (b.others.whole alone table rid).1 in
+    record {
+      described = b.columns (writer_reads t.0 l alone) def.number ∙ h.described;
+      made = (let lt = h.made in let next = b.next in omega (arith, lt, next));
+      small = h.small;
+      user = h.user;
+      empty = λ rid. same def.number rid ∙ h.empty rid;
+      free = subst (Each (λ n. n ≢ def.number)) (sym (b.others.given alone)) h.free;
+      absent = λ d defines. h.absent d (defines_same w'.current w.current (λ table rid k. same table rid) d defines);
+      unlisted = λ rid name at. h.unlisted rid name (sym (same 1 rid) ∙ at);
+      columns = first_same w.current w'.current def.number done def.columns (λ rid. same 2 rid) h.columns;
+    }
+
+makes_kept : (w : World) (l : Lock) (v : View) (w' : World) (l' : Lock) (v' : View) (c : ℕ) (s : Session) (make : Make) → Beside s.txn c w l v w' l' v' → w.count ≤ w'.count → Makes w l v c s make → Makes w' l' v' c s make
 unfolding bears_kept stands_kept
 makes_kept w l v w' l' v' c s make b more h = record {
   bears = bears_kept w l v w' l' v' c s make b more h.bears;
-  unchanged = subst (λ (x : Txn). x.changes ≡ x.begun) (sym b.others.txn) h.unchanged;
   stands = stands_kept w w' v v' s b.others.txn b.changes h.stands;
-  container = λ made. let p = h.container made in (p.0, ap changes_in b.changes ∙ p.1);
-  none = h.none;
-  no_room = h.no_room;
+  puts = h.puts;
+  within = h.within;
+  unmade = h.unmade;
+  founded = λ made left. founded_kept w l v w' l' v' s.txn c make.def make.done b h.bears.alone (h.founded made left);
+  room = λ on. ap (λ x. x.room) b.actor ∙ h.room on;
 }
 
 claims_kept : (p : Plan) (w : World) (l : Lock) (v : View) (w' : World) (l' : Lock) (v' : View) (c : ℕ) (s : Session) → Beside s.txn c w l v w' l' v' → w.count ≤ w'.count → Claims w l v s p → Claims w' l' v' s p
@@ -295,7 +323,6 @@ busy_kept w l v w' l' v' last last' c s shared k b more h = let e = b.others.txn
   numbers = ap (λ (x : Txn). map (λ m. m.number) x.changes) e ∙ h.numbers;
   reflects = subst (λ (x : Txn). Reflects s.opened (v'.content.changes (txn_of s)) x.changes) (sym e) (subst (λ i. Reflects s.opened i (w.txns (txn_of s)).changes) (sym b.changes) h.reflects);
   slots = subst (λ (x : Txn). HaveSlots v' x.changes) (sym e) (slots_kept w l v w' l' v' c s shared b h.slots);
-  users = subst (λ (x : Txn). AreUsers x.changes) (sym e) h.users;
   containers = subst (λ (x : Txn). MakesAlone w'.committed l' (txn_of s) (changes_in (v'.content.changes (txn_of s))) x.changes) (sym e)
       (subst (λ i. MakesAlone w'.committed l' (txn_of s) (changes_in i) (w.txns (txn_of s)).changes) (sym b.changes)
       (alone_kept (txn_of s) w l w' l' (changes_in (v.content.changes (txn_of s))) (w.txns (txn_of s)).changes b.others h.containers));

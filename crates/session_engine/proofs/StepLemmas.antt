@@ -1,5 +1,5 @@
 -- What each step of a connection owes, from the part of the connection itself. r is the session before.
-use Rattle.std.proofs.Common.{◌≡◌, ◌≢◌, ℕ, zero, suc, ◌+◌, ◌<◌, ◌≤◌, List, [], ◌∷◌, ◌++◌, length, map, set, get_or, reverse, Bool, true, false, refl, sym, ◌∙◌, ap, subst, arith, inl, None, Vec, Global, vec_len, vec_capacity}
+use Rattle.std.proofs.Common.{◌≡◌, ◌≢◌, ℕ, zero, suc, ◌+◌, ◌<◌, ◌≤◌, List, [], ◌∷◌, ◌++◌, length, map, set, get_or, reverse, Bool, true, false, refl, sym, ◌∙◌, ap, subst, arith, inl, inr, None, Vec, Global, vec_len, vec_capacity}
 use Rattle.std.specs.Prelude.{◌⊎◌, All}
 use Rattle.std.proofs.lemmas.List.{get_or_default}
 use Rattle.std.proofs.lemmas.Bool.{both_ways, eq-eqb}
@@ -31,11 +31,13 @@ use Rattle.session_model.proofs.EntryLemmas.{committed_others, committed_kept}
 use Rattle.session_engine.specs.declared.session.Phase.{Phase}
 use Rattle.session_engine.specs.declared.session.Phase.TheVariants.{Committing, Forcing, Acknowledging}
 use Rattle.session_engine.specs.declared.session.Session.{Session}
-use Rattle.session_engine.specs.Dictionary.{IsDictionary, Named}
+use Rattle.session_engine.specs.Dictionary.{Named}
+use Rattle.session_engine.specs.Listed.{Cataloged}
 use Rattle.session_engine.specs.Engine.{EngineHolds, state}
-use Rattle.session_engine.specs.State.{MakesAlone, has_made, State, Holds, SessionHolds, Busy, HaveSlots, AreUsers, Mirrors, Reflects, PhaseHolds, IsStage, WaitsNot, AreDescribed, world_of, txn_of}
+use Rattle.session_engine.specs.State.{MakesAlone, has_made, State, Holds, SessionHolds, Busy, HaveSlots, Mirrors, Reflects, PhaseHolds, IsStage, WaitsNot, world_of, txn_of}
+use Rattle.session_engine.proofs.ListedLemmas.{quiet_catalog, still_catalog}
 use Rattle.session_engine.proofs.QueueLemmas.{none_asks}
-use Rattle.session_engine.proofs.MoveLemmas.{Stepping, StoreMoves, store_holds, lock_same, entered, moved, described_same}
+use Rattle.session_engine.proofs.MoveLemmas.{Stepping, StoreMoves, store_holds, lock_same, entered, moved}
 use Rattle.session_engine.proofs.RoomLemmas.{room_after}
 use Rattle.session_engine.proofs.StableLemmas.{session_kept}
 
@@ -55,14 +57,14 @@ pub apart_of : (w : World) (l : Lock) (v : View) (last c a : ℕ) → (w.txns a)
 apart_of w l v last c a own i s ne b e = ne (sym b.conn ∙ ap (λ t. (w.txns t).conn) e ∙ own)
 
 -- A STEP of a transaction that is open, and whose request, if it had one, doesn't wait
-pub stepping_idle : (st : State) (last : ℕ) (w' : World) (k : ℕ) (r s' : Session) (v' : View) → k < length st.ss → r ≡ get_or st.ss k r
+pub stepping_idle : (st : State) (last : ℕ) (w' : World) (k : ℕ) (r s' : Session) (v' : View) (named' : List Named) → k < length st.ss → r ≡ get_or st.ss k r
     → Busy (world_of st.es) st.lock st.view last (k + 1) r → waiting st.lock r.txn ≡ None
     → ((t : ℕ) → t ≢ txn_of r → Others t (world_of st.es) (locks_of st.lock.grants) w' (locks_of st.lock.grants)) → StoreMoves (locks_of st.lock.grants) (txn_of r) (k + 1) st.view v'
     → ((i : ℕ) → i ≢ k + 1 → w'.conns i ≡ (world_of st.es).conns i) → SessionHolds w' st.lock v' last (k + 1) s'
     → ((txn_of s' ≡ txn_of r) ⊎ (v'.content.changes (txn_of r) ≡ None)) → s'.script ≡ r.script → (world_of st.es).count ≤ w'.count → w'.last ≡ last
     → Each (λ n. n < v'.content.next_container) w'.given → ((table : ℕ) (rid : RowId) → live (v'.content.heaps table rid) ≡ w'.current table rid)
-    → IsDictionary w'.current st.named → AreDescribed v' st.named → Stepping st last w' (txn_of r) k s' v' last
-stepping_idle st last w' k r s' v' lt at busy idle others store conns own has script more last_is given stored dictionary described = record {
+    → Cataloged v' w' named' → Stepping st last w' (txn_of r) k s' v' last named'
+stepping_idle st last w' k r s' v' named' lt at busy idle others store conns own has script more last_is given stored cataloged = record {
   within = lt;
   positive = busy.positive;
   others = others;
@@ -80,22 +82,31 @@ stepping_idle st last w' k r s' v' lt at busy idle others store conns own has sc
   below = busy.numbered;
   given = given;
   stored = stored;
-  dictionary = dictionary;
-  described = described;
+  cataloged = cataloged;
 }
   where
     get_or_is : (ss : List Session) (k : ℕ) (r d : Session) → k < length ss → r ≡ get_or ss k r → get_or ss k d ≡ r
     get_or_is ss k r d lt at = get_or_default ss k d r lt ∙ sym at
 
 -- and that has none
+pub stepping_with : (st : State) (last : ℕ) (w' : World) (k : ℕ) (r s' : Session) (v' : View) (named' : List Named) → k < length st.ss → r ≡ get_or st.ss k r
+    → (busy : Busy (world_of st.es) st.lock st.view last (k + 1) r) → WaitsNot r
+    → ((t : ℕ) → t ≢ txn_of r → Others t (world_of st.es) (locks_of st.lock.grants) w' (locks_of st.lock.grants)) → StoreMoves (locks_of st.lock.grants) (txn_of r) (k + 1) st.view v'
+    → ((i : ℕ) → i ≢ k + 1 → w'.conns i ≡ (world_of st.es).conns i) → SessionHolds w' st.lock v' last (k + 1) s'
+    → ((txn_of s' ≡ txn_of r) ⊎ (v'.content.changes (txn_of r) ≡ None)) → s'.script ≡ r.script → (world_of st.es).count ≤ w'.count → w'.last ≡ last
+    → Each (λ n. n < v'.content.next_container) w'.given → ((table : ℕ) (rid : RowId) → live (v'.content.heaps table rid) ≡ w'.current table rid)
+    → Cataloged v' w' named' → Stepping st last w' (txn_of r) k s' v' last named'
+stepping_with st last w' k r s' v' named' lt at busy quiet = stepping_idle st last w' k r s' v' named' lt at busy (busy.idle quiet)
+
+-- .. and leaves the dictionary as it is
 pub stepping : (st : State) (last : ℕ) (w' : World) (k : ℕ) (r s' : Session) (v' : View) → k < length st.ss → r ≡ get_or st.ss k r
     → (busy : Busy (world_of st.es) st.lock st.view last (k + 1) r) → WaitsNot r
     → ((t : ℕ) → t ≢ txn_of r → Others t (world_of st.es) (locks_of st.lock.grants) w' (locks_of st.lock.grants)) → StoreMoves (locks_of st.lock.grants) (txn_of r) (k + 1) st.view v'
     → ((i : ℕ) → i ≢ k + 1 → w'.conns i ≡ (world_of st.es).conns i) → SessionHolds w' st.lock v' last (k + 1) s'
     → ((txn_of s' ≡ txn_of r) ⊎ (v'.content.changes (txn_of r) ≡ None)) → s'.script ≡ r.script → (world_of st.es).count ≤ w'.count → w'.last ≡ last
     → Each (λ n. n < v'.content.next_container) w'.given → ((table : ℕ) (rid : RowId) → live (v'.content.heaps table rid) ≡ w'.current table rid)
-    → IsDictionary w'.current st.named → AreDescribed v' st.named → Stepping st last w' (txn_of r) k s' v' last
-stepping st last w' k r s' v' lt at busy quiet = stepping_idle st last w' k r s' v' lt at busy (busy.idle quiet)
+    → Cataloged v' w' st.named → Stepping st last w' (txn_of r) k s' v' last st.named
+stepping st last w' k r s' v' lt at busy quiet = stepping_idle st last w' k r s' v' st.named lt at busy (busy.idle quiet)
 
 -- THE COMMIT RECORD
 no_discards : (items : List Item) (ms : List Made) (d : Content) → Mirrors items ms → without_discarded items d ≡ d
@@ -140,7 +151,6 @@ appends st last k r made v' lt at is none content actors limit ok =
           numbers = ap (λ (y : Txn). map (λ m. m.number) y.changes) x ∙ ap reverse (sym none);
           reflects = (closed_there, ap (λ (y : Txn). y.changes) x);
           slots = subst (λ (y : Txn). HaveSlots v' y.changes) (sym x) tt;
-          users = subst (λ (y : Txn). AreUsers y.changes) (sym x) tt;
           containers = inl (ap (λ i. has_made (changes_in i)) closed_there);
           idle = busy.idle;
         },
@@ -156,11 +166,12 @@ appends st last k r made v' lt at is none content actors limit ok =
       limit_same = limit;
       heaps = λ t ne reads table rid h. ap (λ (d : Content). d.heaps table rid) plain;
       columns = λ t ne reads table. ap (λ (d : Content). d.columns table) plain;
+      next = (let same = ap (λ (d : Content). d.next_container) plain in omega (arith, same));
     })
     (λ i ne. refl) own (inl refl) refl (omega arith) ok.last_is
     (subst (λ (d : Content). Each (λ n. n < d.next_container) w.given) (sym plain) ok.given)
     (λ table rid. ap (λ (d : Content). live (d.heaps table rid)) plain ∙ ok.stored table rid)
-    ok.dictionary (described_same st.view v' st.named (λ n. ap (λ (d : Content). d.columns n) plain) (ap (λ (d : Content). d.next_container) plain) ok.described)) ok
+    (quiet_catalog (txn_of r) st.view v' w w' st.named refl (λ n. ap (λ (d : Content). d.columns n) plain) (ap (λ (d : Content). d.next_container) plain) (λ t ne. at_other w.txns (txn_of r) _ t ne) (inr (ap (λ (y : Txn). y.changes) x)) ok.cataloged)) ok
 
 -- WHAT IS STORED behind a call without memory and room of its own, whatever it answers
 pub stored_after : (damaged : Damage → Type 0) (left : Content) (v v' : View) (answer : Result (Unit {0}) StoreAnswer)
@@ -182,12 +193,13 @@ still_store st last v' content actors limit ok = record {
   alone = ok.alone;
   waits = ok.waits;
   each = λ i d lt. session_kept (world_of st.es) st.lock st.view (world_of st.es) st.lock v' last last (i + 1) (get_or st.ss i d) ok.shared refl (λ b. record {
-    others = record { txn = refl; reads = λ table rid h. h; writes = λ table rid h. h; committed = λ table rid h. refl; current = λ table rid h. refl; whole = λ h table rid. (refl, refl) };
+    others = record { txn = refl; reads = λ table rid h. h; writes = λ table rid h. h; committed = λ table rid h. refl; current = λ table rid h. refl; whole = λ h table rid. (refl, refl); given = λ h. refl };
     locks = lock_same (get_or st.ss i d).txn st.lock;
     changes = ap (λ (x : Content). x.changes (txn_of (get_or st.ss i d))) content;
     actor = actors (i + 1);
     heaps = λ r table rid h. ap (λ (x : Content). x.heaps table rid) content;
     columns = λ r table. ap (λ (x : Content). x.columns table) content;
+    next = (let same = ap (λ (x : Content). x.next_container) content in omega (arith, same));
   }) (omega arith) (omega arith) (ok.each i d lt);
   last_is = ok.last_is;
   fresh = ok.fresh;
@@ -197,8 +209,7 @@ still_store st last v' content actors limit ok = record {
   known = λ t h. ok.known t (λ e. h (ap (λ (x : Content). x.changes t) content ∙ e));
   holders = λ b h. ok.holders b (λ e. h (ap (λ x. x.pages) (actors b) ∙ e));
   few = (let few = ok.few in omega (arith, few, limit));
-  dictionary = ok.dictionary;
-  described = described_same st.view v' st.named (λ n. ap (λ (x : Content). x.columns n) content) (ap (λ (d : Content). d.next_container) content) ok.described;
+  cataloged = still_catalog st.view v' (world_of st.es) st.named content ok.cataloged;
 }
 
 -- THE COMMIT IS DURABLE
@@ -213,7 +224,7 @@ forced st last k r v' lt at is content actors limit ok =
     let s' : Session = record r { phase = Acknowledging } in
     let stage : (w.txns (txn_of r)).stage ≡ settled = subst (λ q. IsStage q (w.txns (txn_of r)).stage) is busy.stage in
     moved st last (txn_of r) k s' v' (stepping st last w k r s' v' lt at busy p.1
-    (λ t ne. record { txn = refl; reads = λ table rid h. h; writes = λ table rid h. h; committed = λ table rid h. refl; current = λ table rid h. refl; whole = λ h table rid. (refl, refl) })
+    (λ t ne. record { txn = refl; reads = λ table rid h. h; writes = λ table rid h. h; committed = λ table rid h. refl; current = λ table rid h. refl; whole = λ h table rid. (refl, refl); given = λ h. refl })
     (store_holds (locks_of st.lock.grants) (txn_of r) (k + 1) st.view v' content (λ b ne. actors b) limit) (λ i ne. refl)
     (record {
       begun = mine.begun;
@@ -231,7 +242,6 @@ forced st last k r v' lt at is content actors limit ok =
           numbers = busy.numbers;
           reflects = subst (λ (x : Content). Reflects r.opened (x.changes (txn_of r)) (w.txns (txn_of r)).changes) (sym content) busy.reflects;
           slots = subst (λ (x : Content). HaveSlots (record v' { content = x }) (w.txns (txn_of r)).changes) (sym content) busy.slots;
-          users = busy.users;
           containers = subst (λ (x : Content). MakesAlone w.committed st.lock (txn_of r) (changes_in (x.changes (txn_of r))) (w.txns (txn_of r)).changes) (sym content) busy.containers;
           idle = busy.idle;
         },
@@ -241,7 +251,7 @@ forced st last k r v' lt at is content actors limit ok =
     })
     (inl refl) refl (omega arith) ok.last_is
     (subst (λ (x : Content). Each (λ n. n < x.next_container) w.given) (sym content) ok.given)
-    (λ table rid. ap (λ (x : Content). live (x.heaps table rid)) content ∙ ok.stored table rid) ok.dictionary (described_same st.view v' st.named (λ n. ap (λ (x : Content). x.columns n) content) (ap (λ (d : Content). d.next_container) content) ok.described)) ok
+    (λ table rid. ap (λ (x : Content). live (x.heaps table rid)) content ∙ ok.stored table rid) (still_catalog st.view v' w st.named content ok.cataloged)) ok
 
 -- a session at a place, whatever way it was read
 pub same_session : (ss : List Session) (k : ℕ) (r s : Session) → k < length ss → r ≡ get_or ss k r → s ≡ get_or ss k s → r ≡ s

@@ -35,7 +35,8 @@ use Rattle.session_engine.specs.declared.session.Plan.{Plan}
 use Rattle.session_engine.specs.declared.session.Plan.TheVariants as plan
 use Rattle.session_engine.specs.declared.session.Session.{Session}
 use Rattle.session_engine.specs.Follows.{Follows, level_set, automatic_set}
-use Rattle.session_engine.specs.State.{MakesAlone, State, Holds, SessionHolds, Busy, Commands, Refuses, RefusesFor, Works, Stands, Mirrors, Reflects, PhaseHolds, IsStage, IsShown, WaitsNot, IsOpened, IsUnchanged, HaveSlots, AreUsers, ends_in, opens, world_of, txn_of}
+use Rattle.session_engine.specs.State.{MakesAlone, State, Holds, SessionHolds, Busy, Commands, Refuses, RefusesFor, Works, Stands, Mirrors, Reflects, PhaseHolds, IsStage, IsShown, WaitsNot, IsOpened, IsUnchanged, HaveSlots, ends_in, opens, world_of, txn_of}
+use Rattle.session_engine.proofs.ListedLemmas.{quiet_catalog}
 use Rattle.session_engine.proofs.MoveLemmas.{store_holds, entered}
 use Rattle.session_engine.proofs.StepLemmas.{own_session, phase_at, stepping}
 use Rattle.session_engine.proofs.EndLemmas.{conn_at, at_conn, mirrors_nil, refuses_pages}
@@ -76,14 +77,13 @@ pub record BusyWith (w : World) (l : Lock) (v : View) (last c : ℕ) (s : Sessio
   pub numbers : map (λ m. m.number) (w.txns t.0).changes ≡ reverse s.made.items
   pub reflects : Reflects s.opened (v.content.changes t.0) (w.txns t.0).changes
   pub slots : HaveSlots v (w.txns t.0).changes
-  pub users : AreUsers (w.txns t.0).changes
   pub containers : MakesAlone w.committed l t.0 (changes_in (v.content.changes t.0)) (w.txns t.0).changes
   pub idle : s.queued ≡ false → waiting l t ≡ None
 
 pub busy_at : (w : World) (l : Lock) (v : View) (last c : ℕ) (s : Session) (t : TxnNo) → s.txn ≡ t → BusyWith w l v last c s t → Busy w l v last c s
 busy_at w l v last c s t e h =
     let k : BusyWith w l v last c s s.txn = subst (BusyWith w l v last c s) (sym e) h in
-    record { stage = k.stage; conn = k.conn; mine = k.mine; positive = k.positive; numbered = k.numbered; numbers = k.numbers; reflects = k.reflects; slots = k.slots; users = k.users; containers = k.containers; idle = k.idle }
+    record { stage = k.stage; conn = k.conn; mine = k.mine; positive = k.positive; numbered = k.numbered; numbers = k.numbers; reflects = k.reflects; slots = k.slots; containers = k.containers; idle = k.idle }
 
 untold_open : (x : Stage) → is_untold x ≡ true → is_ended x ≡ false
 untold_open x h = grind arith
@@ -149,7 +149,6 @@ answers st last k r s' answer joined from to lt at is follows level automatic tx
       numbers = ap (λ (y : Txn). map (λ m. m.number) y.changes) x ∙ busy.numbers ∙ ap reverse (sym made);
       reflects = subst (λ b. Reflects b (st.view.content.changes a) (w'.txns a).changes) (sym opened) (subst (λ (y : Txn). Reflects r.opened (st.view.content.changes a) y.changes) (sym x) busy.reflects);
       slots = subst (λ (y : Txn). HaveSlots st.view y.changes) (sym x) busy.slots;
-      users = subst (λ (y : Txn). AreUsers y.changes) (sym x) busy.users;
       containers = subst (λ (y : Txn). MakesAlone w.committed st.lock a (changes_in (st.view.content.changes a)) y.changes) (sym x) busy.containers;
       idle = λ q. busy.idle p.1;
     }) in
@@ -163,9 +162,10 @@ answers st last k r s' answer joined from to lt at is follows level automatic tx
     } in
     entered st last e a k s' st.view last (record { session = stage; undo = tt; change = tt; refusal = passes }) meets
     (answered_kept r.txn answer joined from to w l stage rests ok.shared)
-    (stepping st last w' k r s' st.view lt at busy p.1 (quiet_others a w l w' refl refl (λ t ne. at_other w.txns a _ t ne))
+    (stepping st last w' k r s' st.view lt at busy p.1 (quiet_others a w l w' refl refl refl (λ t ne. at_other w.txns a _ t ne))
     (store_holds l a (k + 1) st.view st.view refl (λ b ne. refl) refl)
-    (λ i ne. at_other w.conns (w.txns a).conn _ i (λ e. ne (e ∙ busy.conn))) own (inl same) script (omega arith) ok.last_is ok.given ok.stored ok.dictionary ok.described) ok
+    (λ i ne. at_other w.conns (w.txns a).conn _ i (λ e. ne (e ∙ busy.conn))) own (inl same) script (omega arith) ok.last_is ok.given ok.stored
+    (quiet_catalog a st.view st.view w w' st.named refl (λ n. refl) refl (λ t ne. at_other w.txns a _ t ne) (inl (ap (λ (y : Txn). y.changes) x)) ok.cataloged)) ok
 
 -- A COMMAND'S ANSWER
 pub command_meets : (st : State) (last k : ℕ) (r : Session) (c : Command) (place : ℕ) → place ≡ length st.es → Commands (world_of st.es) st.lock st.view r c
@@ -295,7 +295,6 @@ denies st last k r s' why lt at busy quiet untold first unchanged shown follows 
       numbers = ap (λ (y : Txn). map (λ m. m.number) y.changes) x ∙ busy.numbers ∙ ap reverse (sym made);
       reflects = subst (λ b. Reflects b (st.view.content.changes a) (w'.txns a).changes) (sym opened) (subst (λ (y : Txn). Reflects r.opened (st.view.content.changes a) y.changes) (sym x) busy.reflects);
       slots = subst (λ (y : Txn). HaveSlots st.view y.changes) (sym x) busy.slots;
-      users = subst (λ (y : Txn). AreUsers y.changes) (sym x) busy.users;
       containers = subst (λ (y : Txn). MakesAlone w.committed st.lock a (changes_in (st.view.content.changes a)) y.changes) (sym x) busy.containers;
       idle = λ q. busy.idle quiet;
     }) in
@@ -310,9 +309,10 @@ denies st last k r s' why lt at busy quiet untold first unchanged shown follows 
     entered st last e a k s' st.view last
     (record { session = untold; undo = unchanged; change = tt; refusal = shown_evidence w st.lock r why shown }) tt
     (refused_kept r.txn why w l open_still (shown_rests w st.lock r why shown) ok.shared)
-    (stepping st last w' k r s' st.view lt at busy quiet (quiet_others a w l w' refl refl (λ t ne. at_other w.txns a _ t ne))
+    (stepping st last w' k r s' st.view lt at busy quiet (quiet_others a w l w' refl refl refl (λ t ne. at_other w.txns a _ t ne))
     (store_holds l a (k + 1) st.view st.view refl (λ b ne. refl) refl)
-    (λ i ne. refl) own (inl same) script (omega arith) ok.last_is ok.given ok.stored ok.dictionary ok.described) ok
+    (λ i ne. refl) own (inl same) script (omega arith) ok.last_is ok.given ok.stored
+    (quiet_catalog a st.view st.view w w' st.named refl (λ n. refl) refl (λ t ne. at_other w.txns a _ t ne) (inl (ap (λ (y : Txn). y.changes) x)) ok.cataloged)) ok
 
 pub refuses : (st : State) (last k : ℕ) (r s' : Session) (why : Refusal)
     → k < length st.ss → r ≡ get_or st.ss k r → r.phase ≡ Refusing → r.plan ≡ plan.Refuse why → length (changes_in (st.view.content.changes (txn_of r))) ≡ r.mark

@@ -41,7 +41,8 @@ use Rattle.session_engine.specs.State.{State, Holds, SessionHolds, Busy, Asks, S
 use Rattle.session_engine.proofs.AskLemmas.{granted, queued, relies_on_catalog, writes_catalog}
 use Rattle.session_engine.proofs.BeginLemmas.{absent}
 use Rattle.session_engine.proofs.EventLemmas.{has_granted}
-use Rattle.session_engine.proofs.MoveLemmas.{moved, store_holds, described_same}
+use Rattle.session_engine.proofs.ListedLemmas.{still_catalog}
+use Rattle.session_engine.proofs.MoveLemmas.{moved, store_holds}
 use Rattle.session_engine.proofs.QueueLemmas.{asks_of, find_here, find_later, none_asks, queue_granted}
 use Rattle.session_engine.proofs.ScanLemmas.{nothing_read}
 use Rattle.session_engine.proofs.StartLemmas.{mirrored}
@@ -138,7 +139,6 @@ busy_on w l l' v v' last c s s' grows is content idle stage b =
       numbers = b.numbers;
       reflects = b.reflects;
       slots = b.slots;
-      users = b.users;
       containers = elim b.containers [ inl none ↦ inl none | inr made ↦ inr (λ table rid c. grows (guard table) TX (made.0 table rid c), made.1) ];
       idle = idle;
     }))
@@ -280,6 +280,7 @@ filling_wants w l v last c s fill is planned busy opened h promised = record {
             mirrors_own = tt;
             mirrors_base = subst (Mirrors (changes_in (v.content.changes (txn_of s)))) h.unchanged (mirrored s.opened (v.content.changes (txn_of s)) (w.txns (txn_of s)).changes opened busy.reflects);
           };
+          users = tt;
           done = [];
           rest = h.all;
           puts = refl;
@@ -400,7 +401,7 @@ asks_and_waits st last place k r n m v' lt at e quiet here refused content actor
     content actors limit ok
 
 same_others : (w : World) (l : Lock) (t : ℕ) → Others t w (locks_of l.grants) w (locks_of l.grants)
-same_others w l t = record { txn = refl; reads = λ table rid h. h; writes = λ table rid h. h; committed = λ table rid h. refl; current = λ table rid h. refl; whole = λ h table rid. (refl, refl) }
+same_others w l t = record { txn = refl; reads = λ table rid h. h; writes = λ table rid h. h; committed = λ table rid h. refl; current = λ table rid h. refl; whole = λ h table rid. (refl, refl); given = λ h. refl }
 
 -- a step in which nothing but the connection moves
 pub own_move : (st : State) (last k : ℕ) (r s' : Session) → k < length st.ss → r ≡ get_or st.ss k r → Busy (world_of st.es) st.lock st.view last (k + 1) r → waiting st.lock r.txn ≡ None
@@ -408,10 +409,10 @@ pub own_move : (st : State) (last k : ℕ) (r s' : Session) → k < length st.ss
     → Holds (record { es = st.es; ls = st.ls; lock = st.lock; ss = set st.ss k s'; view = st.view; named = st.named }) last
 own_move st last k r s' lt at busy idle is phase ok =
     let w = world_of st.es in
-    moved st last (txn_of r) k s' st.view (stepping_idle st last w k r s' st.view lt at busy idle (λ t ne. same_others w st.lock t)
+    moved st last (txn_of r) k s' st.view (stepping_idle st last w k r s' st.view st.named lt at busy idle (λ t ne. same_others w st.lock t)
     (store_holds (locks_of st.lock.grants) (txn_of r) (k + 1) st.view st.view refl (λ b ne. refl) refl) (λ i ne. refl)
     (own_part w st.lock st.lock st.view st.view last (k + 1) r s' is (own_session st last k r lt at ok) phase)
-    (inl (ap txn_of is)) (ap (λ (x : Session). x.script) is) (omega arith) ok.last_is ok.given ok.stored ok.dictionary ok.described) ok
+    (inl (ap txn_of is)) (ap (λ (x : Session). x.script) is) (omega arith) ok.last_is ok.given ok.stored ok.cataloged) ok
 
 -- and the pages that it holds
 pub own_step : (st : State) (last k : ℕ) (r s' : Session) (v' : View) → k < length st.ss → r ≡ get_or st.ss k r → Busy (world_of st.es) st.lock st.view last (k + 1) r → waiting st.lock r.txn ≡ None
@@ -420,13 +421,13 @@ pub own_step : (st : State) (last k : ℕ) (r s' : Session) (v' : View) → k < 
     → Holds (record { es = st.es; ls = st.ls; lock = st.lock; ss = set st.ss k s'; view = v'; named = st.named }) last
 own_step st last k r s' v' lt at busy idle is content actors limit phase ok =
     let w = world_of st.es in
-    moved st last (txn_of r) k s' v' (stepping_idle st last w k r s' v' lt at busy idle (λ t ne. same_others w st.lock t)
+    moved st last (txn_of r) k s' v' (stepping_idle st last w k r s' v' st.named lt at busy idle (λ t ne. same_others w st.lock t)
     (store_holds (locks_of st.lock.grants) (txn_of r) (k + 1) st.view v' content actors limit) (λ i ne. refl)
     (own_part w st.lock st.lock st.view v' last (k + 1) r s' is (own_session st last k r lt at ok) phase)
     (inl (ap txn_of is)) (ap (λ (x : Session). x.script) is) (omega arith) ok.last_is
     (subst (λ (x : Content). Each (λ n. n < x.next_container) w.given) (sym content) ok.given)
-    (λ table rid. ap (λ (x : Content). live (x.heaps table rid)) content ∙ ok.stored table rid) ok.dictionary
-    (described_same st.view v' st.named (λ n. ap (λ (x : Content). x.columns n) content) (ap (λ (d : Content). d.next_container) content) ok.described)) ok
+    (λ table rid. ap (λ (x : Content). live (x.heaps table rid)) content ∙ ok.stored table rid)
+    (still_catalog st.view v' w st.named content ok.cataloged)) ok
 
 -- GRANTED SINCE
 pub wakes : (st : State) (last k : ℕ) (r : Session) (n : LockName) (m : Mode) → k < length st.ss → r ≡ get_or st.ss k r → wanted r.phase r.order r.plan ≡ Some (n, m) → r.queued ≡ true
@@ -475,7 +476,6 @@ refusing_unchanged w l v last c s why busy idle opened runs first marked unchang
       numbers = b.numbers;
       reflects = b.reflects;
       slots = b.slots;
-      users = b.users;
       containers = b.containers;
       idle = λ q. idle;
     }

@@ -12,3 +12,5 @@ pub mod Binding
 pub mod Filling
 pub mod Stepped
 pub mod Creating
+pub mod Listed
+pub mod Listing

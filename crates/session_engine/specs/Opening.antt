@@ -4,6 +4,7 @@ use Rattle.dby_types.specs.declared.number.Level.TheVariants.{Cs}
 use Rattle.dby_types.specs.declared.number.RowId.{RowId}
 use Rattle.store_api.specs.View.{View, live}
 use Rattle.sql_lexer.specs.Splitting.{spans_of}
+use Rattle.session_engine.specs.Listed.{ReadsListings}
 use Rattle.session_engine.specs.declared.session.Phase.TheVariants.{Idle}
 use Rattle.session_engine.specs.declared.session.Session.{Session}
 
@@ -12,6 +13,8 @@ pub record IsEmptyStore (v : View) : Type 0 where
   pub rows : (table : ℕ) (rid : RowId) → live (v.content.heaps table rid) ≡ None
   pub changes : (t : ℕ) → v.content.changes t ≡ None
   pub held : (a : ℕ) → (v.actors a).pages ≡ 0
+  -- its catalog can be read and written
+  pub catalogs : ReadsListings v
 
 -- a connection that has begun no statement of its script
 pub record IsNew (s : Session) : Type 0 where

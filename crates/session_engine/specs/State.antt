@@ -1,5 +1,6 @@
 -- What holds of an engine between any two of its steps.
-use Rattle.std.specs.Prelude.{◌≡◌, ◌≢◌, ◌⊎◌, ℕ, ◌+◌, ◌<◌, ◌≤◌, Bool, true, false, List, [], ◌∷◌, ◌++◌, length, map, reverse, Vec, vec_len, vec_capacity, slice_index_or, Option, Some, None, All, if◌then◌else◌}
+use Rattle.std.specs.Prelude.{◌≡◌, ◌≢◌, ◌⊎◌, ℕ, ◌+◌, ◌<◌, ◌≤◌, ◌^◌, Bool, true, false, List, [], ◌∷◌, ◌++◌, length, map, reverse, take, slice_get, Vec, vec_len, vec_capacity, slice_index_or, Option, Some, None, All, if◌then◌else◌}
+use Rattle.dby_types.specs.declared.definition.ColumnDef.{ColumnDef}
 use Rattle.dby_types.specs.declared.number.RowId.{RowId}
 use Rattle.dby_types.specs.declared.number.TxnNo.{TxnNo}
 use Rattle.lock_modes.specs.declared.entry.Request.{Request}
@@ -23,7 +24,7 @@ use Rattle.sql_lexer.specs.Splitting.{spans_of}
 use Rattle.session_model.specs.declared.journal.Locked.{Locked}
 use Rattle.session_model.specs.Orders.{order_of, is_built, is_create}
 use Rattle.session_model.specs.World.{World, Txn, Stage, denied, seen, running, resting, committing, leaving, settled, opening, replay, no_txn, is_untold, is_returnable}
-use Rattle.session_model.specs.Legal.{IsLegal, Wants, HasEvidence, is_lasting, dictionary_mode}
+use Rattle.session_model.specs.Legal.{IsLegal, Wants, HasEvidence, is_lasting, dictionary_mode, puts_of}
 use Rattle.session_model.specs.Places.{Shared, Others, ReadsCatalog, WritesCatalog, locks_of, is_catalog}
 use Rattle.session_engine.specs.declared.session.Phase.{Phase}
 use Rattle.session_engine.specs.declared.session.Phase.TheVariants.{Idle, Resting, Asking, Preparing, Claiming, Working, Refusing, Committing, Forcing, Acknowledging, Leaving}
@@ -34,7 +35,7 @@ use Rattle.sql_commands.specs.declared.command.Command.{Command}
 use Rattle.session_model.specs.declared.order.Order.TheVariants as ordered
 use Rattle.journal_model.specs.declared.journal.Refusal.{Refusal}
 use Rattle.dby_types.specs.declared.definition.TableDef.{TableDef}
-use Rattle.journal_model.specs.Catalog.{Defines, NoTable}
+use Rattle.journal_model.specs.Catalog.{Defines, IsOf, NoTable, column_row, table_row}
 use Rattle.journal_model.specs.Meaning.{is_long, Names, Suits, names_twice, some_null}
 use Rattle.journal_model.specs.Levels.{row_of}
 use Rattle.journal_model.specs.Legal.{written, row_put}
@@ -44,7 +45,9 @@ use Rattle.session_engine.specs.declared.session.Scan.{Scan}
 use Rattle.session_engine.specs.declared.session.Fill.{Fill}
 use Rattle.session_engine.specs.declared.session.Make.{Make}
 use Rattle.session_engine.specs.Scanning.{IsScanned, IsUnread, IsWhere}
-use Rattle.session_engine.specs.Dictionary.{Named, Among, IsDictionary}
+use Rattle.session_engine.specs.Dictionary.{Named, Among}
+use Rattle.session_engine.specs.Listed.{Cataloged}
+use Rattle.session_engine.specs.Listing.{table_at}
 
 -- ALL THAT THE ENGINE KEEPS: entries, lock events, the lock table's state, its connections, what its store is seen with, its dictionary
 pub record State : Type 0 where
@@ -133,7 +136,7 @@ has_made (Discarded c ∷ items) = has_made items
 abbrev pub MakesAlone : Tables → Lock → ℕ → List Item → List Made → Type 0
 MakesAlone f l t items ms = (has_made items ≡ false) ⊎ (WritesCatalog (locks_of l.grants) t × AreNew f items ms)
 
--- no change is of the catalog: no statement of the engine makes or drops a table yet
+-- no change is of the catalog
 abbrev pub AreUsers : List Made → Type 0
 AreUsers ms = Each (λ m. is_catalog m.change.table ≡ false) ms
 
@@ -147,7 +150,6 @@ pub record Busy (w : World) (l : Lock) (v : View) (last c : ℕ) (s : Session) :
   pub numbers : map (λ m. m.number) (w.txns (txn_of s)).changes ≡ reverse s.made.items
   pub reflects : Reflects s.opened (v.content.changes (txn_of s)) (w.txns (txn_of s)).changes
   pub slots : HaveSlots v (w.txns (txn_of s)).changes
-  pub users : AreUsers (w.txns (txn_of s)).changes
   pub containers : MakesAlone w.committed l (txn_of s) (changes_in (v.content.changes (txn_of s))) (w.txns (txn_of s)).changes
   pub idle : s.queued ≡ false → waiting l s.txn ≡ None
 
@@ -248,6 +250,7 @@ pub record Fills (w : World) (l : Lock) (v : View) (c : ℕ) (s : Session) (fill
   pub inserts : Inserts w l s fill
   pub writes : (rid : RowId) → (locks_of l.grants).writes (txn_of s) fill.number rid ≡ true
   pub stands : Stands s.mark (changes_in (v.content.changes (txn_of s))) (w.txns (txn_of s))
+  pub users : AreUsers stands.own
   pub done : List (List Value)
   pub rest : done ++ reverse fill.rows.items ≡ inserts.tuples
   pub puts : written stands.own ≡ map (row_put fill.number) done
@@ -270,14 +273,33 @@ pub record Bears (w : World) (l : Lock) (s : Session) (make : Make) : Type 0 whe
   pub distinct : names_twice make.def.columns ≡ false
   pub few : length make.def.columns ≤ 64
 
--- it has put no row of the catalog yet; once its container is made, that is the newest thing that it did
-pub record Makes (w : World) (l : Lock) (v : View) (s : Session) (make : Make) : Type 0 where
+-- the rows of a table's first columns stand in the catalog, and no others of this table
+pub record HasFirst (tables : Tables) (number done : ℕ) (columns : List ColumnDef) : Type 0 where
+  pub each : (place : ℕ) (c : ColumnDef) → place < done → slice_get columns place ≡ Some c → (rid : RowId) × (tables 2 rid ≡ Some (column_row number place c))
+  pub only : (rid : RowId) (row : List Value) → tables 2 rid ≡ Some row → IsOf number row
+      → (place : ℕ) × (c : ColumnDef) × (place < done) × (slice_get columns place ≡ Some c) × (row ≡ column_row number place c)
+
+-- its container stands, and is described; nobody knows the table yet
+pub record IsFounded (w : World) (v : View) (def : TableDef) (done : ℕ) : Type 0 where
+  pub described : v.content.columns def.number ≡ Some def.columns
+  pub made : def.number < v.content.next_container
+  pub small : def.number < 2 ^ 31
+  pub user : 16 ≤ def.number
+  pub empty : (rid : RowId) → w.current def.number rid ≡ None
+  pub free : Each (λ k. k ≢ def.number) w.given
+  pub absent : NoTable w.current def.name
+  pub unlisted : (rid : RowId) (name : List ℕ) → w.current 1 rid ≡ Some (table_row def.number name) → ⊥
+  pub columns : HasFirst w.current def.number done def.columns
+
+-- it makes its container, and puts its catalog rows, one after another
+pub record Makes (w : World) (l : Lock) (v : View) (c : ℕ) (s : Session) (make : Make) : Type 0 where
   pub bears : Bears w l s make
-  pub unchanged : IsUnchanged w s
   pub stands : Stands s.mark (changes_in (v.content.changes (txn_of s))) (w.txns (txn_of s))
-  pub container : make.made ≡ true → (rest : List Item) × (changes_in (v.content.changes (txn_of s)) ≡ Created make.def.number ∷ rest)
-  pub none : make.done ≡ 0
-  pub no_room : make.has_room ≡ false
+  pub puts : written stands.own ≡ take make.done (puts_of make.def.number make.def.name make.def.columns)
+  pub within : make.done ≤ length make.def.columns + 1
+  pub unmade : make.made ≡ false → (make.done ≡ 0) × (make.has_room ≡ false)
+  pub founded : make.made ≡ true → make.done ≤ length make.def.columns → IsFounded w v make.def make.done
+  pub room : make.has_room ≡ true → (v.actors c).room ≡ Some (table_at make.done make.def.columns)
 
 -- it asks for the table that it was bound to
 abbrev pub Claims : World → Lock → View → Session → Plan → Type 0
@@ -290,7 +312,7 @@ abbrev pub Works : World → Lock → View → ℕ → Session → Plan → Type
 Works w l v c s (plan.Command d) = Commands w l v s d
 Works w l v c s (plan.Select scan) = Scans w l v s scan
 Works w l v c s (plan.Insert fill) = Fills w l v c s fill
-Works w l v c s (plan.Create make) = Makes w l v s make
+Works w l v c s (plan.Create make) = Makes w l v c s make
 Works w l v c s _ = ⊥
 
 abbrev pub RefusesFor : World → Lock → View → Session → Plan → Type 0
@@ -346,15 +368,12 @@ pub record Beside (t : TxnNo) (b : ℕ) (w : World) (l : Lock) (v : View) (w' : 
   -- of what it relies on, with the catalog
   pub heaps : ReadsCatalog (locks_of l.grants) t.0 → (table : ℕ) (rid : RowId) → (locks_of l.grants).reads t.0 table rid ≡ true → v'.content.heaps table rid ≡ v.content.heaps table rid
   pub columns : ReadsCatalog (locks_of l.grants) t.0 → (table : ℕ) → v'.content.columns table ≡ v.content.columns table
+  pub next : v.content.next_container ≤ v'.content.next_container
 
 -- how often a transaction asks
 abbrev pub times_in : TxnNo → List Request → ℕ
 times_in t [] = 0
 times_in t (r ∷ rs) = if same_txn r.txn t then times_in t rs + 1 else times_in t rs
-
--- the store reads and writes the tables of the dictionary by their columns, and has made their containers
-abbrev pub AreDescribed : View → List Named → Type 0
-AreDescribed v named = (e : Named) → Among e named → (v.content.columns e.1.number ≡ Some e.1.columns) × (e.1.number < v.content.next_container)
 
 -- THE INVARIANT
 pub record Holds (st : State) (last : ℕ) : Type 0 where
@@ -373,8 +392,7 @@ pub record Holds (st : State) (last : ℕ) : Type 0 where
   pub known : (t : ℕ) → st.view.content.changes t ≢ None → Among t (map txn_of st.ss)
   pub holders : (b : ℕ) → (st.view.actors b).pages ≢ 0 → (1 ≤ b) × (b ≤ length st.ss)
   pub few : length st.ss < st.view.limit
-  pub dictionary : IsDictionary (world_of st.es).current st.named
-  pub described : AreDescribed st.view st.named
+  pub cataloged : Cataloged st.view (world_of st.es) st.named
 
 -- ROOM. How many entries a connection may still have to put, whatever happens: its changes taken back, and its statement's and its transaction's end
 abbrev pub ends_in : Phase → ℕ

@@ -1,14 +1,20 @@
-//! The steps of a CREATE TABLE.
+//! The steps of a CREATE TABLE: it makes its container, makes room for each of its catalog rows and puts it, and is answered behind the last.
 
 ghost use Rattle.std.specs.Prelude.{◌≡◌};
 ghost use Rattle.session_engine.specs.Stepped.{Grows, HasStopped, NotEnded, stop_after};
 
 use crate::asking::starve;
-use crate::creating::{Contained, new_container};
-use crate::engine::{Engine, actor_of};
-use crate::filling::run_out;
+use crate::creating::{Contained, new_heap, take_unmade};
+use crate::dictionary::enlist;
+use crate::engine::{Engine, actor_of, finished, put};
+use crate::filling::{Roomy, inserted, room_for_row, run_out};
+use crate::follows::{ends, phase_done};
+use crate::listing::{
+    Listing, OF_COLUMNS, OF_TABLES, column_to_put, is_listed, ready, ready_to_list, table_of_next,
+    table_to_put, told_done,
+};
 use crate::session::{Phase, Plan};
-use crate::step::{ASTRAY, Event, Step};
+use crate::step::{ASTRAY, Event, Step, Why};
 use dby_types::state::SqlState;
 use store_api::answers::StoreAnswer;
 use store_api::store::RowStore;
@@ -32,35 +38,224 @@ impl<S: RowStore> Engine<S> {
         let Phase::Working = session.phase else {
             return ASTRAY;
         };
-        let Plan::Create(make) = &mut session.plan else {
+        let Some(mut make) = take_unmade(session) else {
             return ASTRAY;
         };
-        let false = make.made else {
-            return ASTRAY;
-        };
-        match new_container(&mut self.store, actor, session.txn) {
-            Ok(Contained::Made(number)) => {
-                make.def.number = number;
-                make.made = true;
+        match new_heap(&mut self.store, actor, session.txn, &mut make) {
+            Ok(Contained::Made) => {
+                session.plan = Plan::Create(make);
                 Step::Went(Event::Change)
             }
-            Ok(Contained::Onward) => Step::Went(Event::Fix),
+            Ok(Contained::Onward) => {
+                session.plan = Plan::Create(make);
+                Step::Went(Event::Fix)
+            }
             Ok(Contained::NoPages) => {
+                drop(make);
                 run_out(self.alloc, session, SqlState::PagesSpent);
                 self.owed -= 1;
                 Step::Went(Event::Change)
             }
             Ok(Contained::NoLog) => {
+                drop(make);
                 run_out(self.alloc, session, SqlState::LogSpent);
                 self.owed -= 1;
                 Step::Went(Event::Change)
             }
             Err(StoreAnswer::Memory) => {
+                drop(make);
                 starve(session);
                 self.owed -= 1;
                 Step::Went(Event::Change)
             }
-            Err(answer) => self.note(Err(answer), Event::Change),
+            Err(answer) => {
+                session.plan = Plan::Create(make);
+                self.note(Err(answer), Event::Change)
+            }
         }
+    }
+
+    /// It makes room for its next catalog row. Where no page is left it is refused.
+    #[tactic(auto, using(crate::proofs::KeptLemmas::kept_scripts, crate::proofs::KeptLemmas::grows_none, crate::proofs::KeptLemmas::goes_noted))]
+    pub(crate) fn spread(&mut self, c: usize) -> Step
+        ensures same { self.new.0 ≡ self.old.0 }
+        ensures grows { Grows result self.old.1 self.new.1 }
+        ensures stops { self.new.4 ≡ stop_after result self.old.4 }
+        ensures cause { HasStopped result (S.view self.new.3) }
+        ensures goes { NotEnded result }
+    {
+        if c >= self.sessions.len() {
+            return ASTRAY;
+        }
+        self.store.law();
+        let actor = actor_of(c);
+        let session = &mut self.sessions[c];
+        let Phase::Working = session.phase else {
+            return ASTRAY;
+        };
+        let Plan::Create(make) = &mut session.plan else {
+            return ASTRAY;
+        };
+        let true = make.made else {
+            return ASTRAY;
+        };
+        let false = make.has_room else {
+            return ASTRAY;
+        };
+        match room_for_row(&mut self.store, actor, session.txn, table_of_next(make)) {
+            Ok(Roomy::Made) => {
+                make.has_room = true;
+                Step::Went(Event::Fix)
+            }
+            Ok(Roomy::Onward) => Step::Went(Event::Fix),
+            Ok(Roomy::Held(b)) => {
+                self.store.let_go(actor);
+                Step::Blocked(Why::Latch(b))
+            }
+            Ok(Roomy::NoPages) => {
+                run_out(self.alloc, session, SqlState::PagesSpent);
+                self.owed -= 1;
+                Step::Went(Event::Fix)
+            }
+            Ok(Roomy::NoLog) => {
+                run_out(self.alloc, session, SqlState::LogSpent);
+                self.owed -= 1;
+                Step::Went(Event::Fix)
+            }
+            Err(StoreAnswer::Memory) => {
+                starve(session);
+                self.owed -= 1;
+                Step::Went(Event::Fix)
+            }
+            Err(answer) => self.note(Err(answer), Event::Fix),
+        }
+    }
+
+    /// It puts the row of its next column.
+    #[tactic(auto, using(crate::proofs::KeptLemmas::kept_scripts, crate::proofs::KeptLemmas::grows_one, crate::proofs::KeptLemmas::grows_none, crate::proofs::KeptLemmas::keeps_for, crate::proofs::KeptLemmas::goes_noted))]
+    pub(crate) fn lay(&mut self, c: usize) -> Step
+        ensures same { self.new.0 ≡ self.old.0 }
+        ensures grows { Grows result self.old.1 self.new.1 }
+        ensures stops { self.new.4 ≡ stop_after result self.old.4 }
+        ensures cause { HasStopped result (S.view self.new.3) }
+        ensures goes { NotEnded result }
+    {
+        if c >= self.sessions.len() {
+            return ASTRAY;
+        }
+        self.store.law();
+        let actor = actor_of(c);
+        let did = self.entries.len() as u64;
+        let session = &mut self.sessions[c];
+        let Phase::Working = session.phase else {
+            return ASTRAY;
+        };
+        let Some(laid) = column_to_put(self.alloc, session) else {
+            return ASTRAY;
+        };
+        let Ok(row) = ready(laid, &mut self.entries, &mut session.made, self.owed) else {
+            starve(session);
+            self.owed -= 1;
+            return Step::Went(Event::Change);
+        };
+        match self.store.put_row(actor, session.txn, OF_COLUMNS, &row) {
+            Ok(rid) => {
+                put(&mut session.made, did);
+                put(
+                    &mut self.entries,
+                    inserted(session.txn, OF_COLUMNS, rid, row),
+                );
+                self.owed += 1;
+                Step::Went(Event::Change)
+            }
+            Err(answer) => {
+                drop(row);
+                starve(session);
+                self.owed -= 1;
+                self.note_change(answer)
+            }
+        }
+    }
+
+    /// It puts its own row, and stands in the dictionary from now on.
+    #[tactic(auto, using(crate::proofs::KeptLemmas::kept_scripts, crate::proofs::KeptLemmas::grows_one, crate::proofs::KeptLemmas::grows_none, crate::proofs::KeptLemmas::keeps_for, crate::proofs::KeptLemmas::goes_noted))]
+    pub(crate) fn list(&mut self, c: usize) -> Step
+        ensures same { self.new.0 ≡ self.old.0 }
+        ensures grows { Grows result self.old.1 self.new.1 }
+        ensures stops { self.new.4 ≡ stop_after result self.old.4 }
+        ensures cause { HasStopped result (S.view self.new.3) }
+        ensures goes { NotEnded result }
+    {
+        if c >= self.sessions.len() {
+            return ASTRAY;
+        }
+        self.store.law();
+        let actor = actor_of(c);
+        let did = self.entries.len() as u64;
+        let session = &mut self.sessions[c];
+        let Phase::Working = session.phase else {
+            return ASTRAY;
+        };
+        let Some(listed) = table_to_put(self.alloc, session) else {
+            return ASTRAY;
+        };
+        let roomy = ready_to_list(listed, &mut self.tables);
+        let Ok(listing) = ready(roomy, &mut self.entries, &mut session.made, self.owed) else {
+            starve(session);
+            self.owed -= 1;
+            return Step::Went(Event::Change);
+        };
+        let Listing { row, name, defined } = listing;
+        match self.store.put_row(actor, session.txn, OF_TABLES, &row) {
+            Ok(rid) => {
+                put(&mut session.made, did);
+                put(
+                    &mut self.entries,
+                    inserted(session.txn, OF_TABLES, rid, row),
+                );
+                self.owed += 1;
+                enlist(&mut self.tables, name, defined);
+                Step::Went(Event::Change)
+            }
+            Err(answer) => {
+                drop(row);
+                starve(session);
+                self.owed -= 1;
+                self.note_change(answer)
+            }
+        }
+    }
+
+    /// It has put all its rows, and is answered.
+    #[tactic(auto, using(crate::proofs::KeptLemmas::kept_scripts, crate::proofs::KeptLemmas::grows_finished, crate::proofs::KeptLemmas::stops_finished, crate::proofs::KeptLemmas::cause_finished, crate::proofs::KeptLemmas::goes_finished))]
+    pub(crate) fn done(&mut self, c: usize) -> Step
+        ensures same { self.new.0 ≡ self.old.0 }
+        ensures grows { Grows result self.old.1 self.new.1 }
+        ensures stops { self.new.4 ≡ stop_after result self.old.4 }
+        ensures cause { HasStopped result (S.view self.new.3) }
+        ensures goes { NotEnded result }
+    {
+        if c >= self.sessions.len() {
+            return ASTRAY;
+        }
+        self.store.law();
+        let actor = actor_of(c);
+        let place = self.entries.len() as u64;
+        let session = &mut self.sessions[c];
+        let Phase::Working = session.phase else {
+            return ASTRAY;
+        };
+        let Plan::Create(make) = &session.plan else {
+            return ASTRAY;
+        };
+        let true = is_listed(make) else {
+            return ASTRAY;
+        };
+        self.store.let_go(actor);
+        session.plan = Plan::Nothing;
+        put(&mut self.entries, told_done(self.alloc, session.txn, place));
+        session.phase = phase_done(session.automatic);
+        self.owed -= ends(Phase::Working) - ends(session.phase);
+        finished(session.phase)
     }
 }

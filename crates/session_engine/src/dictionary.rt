@@ -1,8 +1,11 @@
 //! The dictionary: the tables by their names.
 
-ghost use Rattle.std.specs.Prelude.{◌≡◌, map, IfSome, IfNone, IfOk};
+ghost use Rattle.std.specs.Prelude.{◌≡◌, ◌≤◌, [], ◌∷◌, ◌++◌, map, IfSome, IfNone, IfOk};
+ghost use Rattle.indexmap.specs.IndexMap.{spare};
 ghost use Rattle.session_engine.specs.Dictionary.{IsThere, IsAbsent};
+ghost use Rattle.session_engine.specs.Listed.{left_named};
 
+use crate::listing::OF_TABLES;
 use dby_types::copies::copy_text;
 use dby_types::definition::{ColumnDef, Columns};
 use dby_types::seq::Seq;
@@ -26,6 +29,25 @@ pub(crate) fn find<'a>(tables: &'a Tables, name: &Name) -> Option<&'a Defined>
     ensures none { IfNone result (IsAbsent tables.now.entries name.now) }
 {
     tables.get(name)
+}
+
+/// A new table stands in the dictionary, where room was made for it.
+pub(crate) fn enlist(tables: &mut Tables, name: Name, defined: Defined)
+    requires room { 1 ≤ spare tables.old }
+    requires absent { IsAbsent tables.old.entries name }
+    ensures { tables.new.entries ≡ tables.old.entries ++ (name, defined) ∷ [] }
+{
+    let _ = tables.insert(name, defined);
+}
+
+/// The newest change, of this catalog table, was taken back: a table's own row takes the dictionary's newest table with it.
+pub(crate) fn unlist(tables: &mut Tables, table: u32)
+    ensures { tables.new.entries ≡ left_named table tables.old.entries }
+{
+    if table == OF_TABLES {
+        let count = tables.len();
+        tables.truncate(count.saturating_sub(1));
+    }
 }
 
 /// The names of columns.

@@ -11,7 +11,7 @@ ghost use Rattle.session_engine.specs.declared.step.Event.TheVariants.{Change, R
 ghost use Rattle.session_model.specs.Legal.{IsLegal};
 ghost use Rattle.table_model.specs.Tables.{Each, no_tables};
 
-use crate::dictionary::Tables;
+use crate::dictionary::{Tables, unlist};
 use crate::follows::{automatic_after, ends, level_after, phase_answered, phase_refused, told};
 use crate::opening::connections;
 use crate::session::{Phase, Plan, Session};
@@ -368,15 +368,11 @@ impl<S: RowStore> Engine<S> {
         };
         let txn = session.txn;
         match self.store.undo_one(actor, txn, 0) {
-            Ok(
-                Undo::Undid {
-                    table: _table,
-                    rid: _rid,
-                },
-            ) => {
+            Ok(Undo::Undid { table, rid: _rid }) => {
                 if let Some(did) = session.made.pop() {
                     put(&mut self.entries, Entry::Undone { txn, did });
                     self.owed -= 1;
+                    unlist(&mut self.tables, table);
                 }
                 Step::Went(Event::Undo)
             }
@@ -465,15 +461,11 @@ impl<S: RowStore> Engine<S> {
         };
         let txn = session.txn;
         match self.store.undo_one(actor, txn, session.mark) {
-            Ok(
-                Undo::Undid {
-                    table: _table,
-                    rid: _rid,
-                },
-            ) => {
+            Ok(Undo::Undid { table, rid: _rid }) => {
                 if let Some(did) = session.made.pop() {
                     put(&mut self.entries, Entry::Undone { txn, did });
                     self.owed -= 1;
+                    unlist(&mut self.tables, table);
                 }
                 Step::Went(Event::Undo)
             }

@@ -14,6 +14,7 @@ mod fill;
 mod filling;
 mod fit;
 mod follows;
+mod listing;
 mod next;
 mod opening;
 mod prepare;

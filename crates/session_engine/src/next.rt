@@ -3,9 +3,9 @@
 ghost use Rattle.std.specs.Prelude.{◌≡◌, nat_le, length, false};
 ghost use Rattle.session_engine.specs.Stepped.{ends_now, is_end_of};
 
-use crate::session::{Fill, Phase, Plan, Scan, Session, Where};
+use crate::session::{Fill, Make, Phase, Plan, Scan, Session, Where};
 
-/// What a bound statement does next: a query's steps, an INSERT's, a CREATE's, and that of a command.
+/// What a bound statement does next: a query's steps, an INSERT's, one of a CREATE's, and that of a command.
 #[derive(Clone, Copy, Debug, PartialEq, Eq)]
 pub(crate) enum Work {
     Seek,
@@ -14,8 +14,18 @@ pub(crate) enum Work {
     Widen,
     Fill,
     Count,
-    Make,
+    Build(Build),
     Command,
+}
+
+/// What a CREATE TABLE does next.
+#[derive(Clone, Copy, Debug, PartialEq, Eq)]
+pub(crate) enum Build {
+    Make,
+    Spread,
+    Lay,
+    List,
+    Done,
 }
 
 /// What comes behind a statement: the commit, or the way back.
@@ -71,12 +81,28 @@ fn next_of_fill(fill: &Fill) -> Work {
     }
 }
 
+/// A CREATE TABLE makes its container, makes room for a catalog row and puts it, and so on behind the last.
+fn next_of_make(make: &Make) -> Build {
+    let columns = make.def.columns.len();
+    if !make.made {
+        Build::Make
+    } else if make.done > columns {
+        Build::Done
+    } else if !make.has_room {
+        Build::Spread
+    } else if make.done < columns {
+        Build::Lay
+    } else {
+        Build::List
+    }
+}
+
 /// What a bound statement does next.
 fn next_of_plan(plan: &Plan) -> Work {
     match plan {
         Plan::Select(scan) => next_of_scan(scan),
         Plan::Insert(fill) => next_of_fill(fill),
-        Plan::Create(_) => Work::Make,
+        Plan::Create(make) => Work::Build(next_of_make(make)),
         _ => Work::Command,
     }
 }

@@ -5,7 +5,7 @@ ghost use Rattle.session_engine.specs.Stepped.{Grows, HasEnded, HasStopped, NotE
 ghost use Rattle.session_engine.specs.declared.step.Stop.{Stop};
 
 use crate::engine::Engine;
-use crate::next::{Close, Next, Work, next_step};
+use crate::next::{Build, Close, Next, Work, next_step};
 use crate::step::Step;
 use dby_types::number::ConnNo;
 use dby_types::seq::Seq;
@@ -73,8 +73,27 @@ impl<S: RowStore + Drop> Engine<S> {
             Work::Widen => self.widen(c),
             Work::Fill => self.fill(c),
             Work::Count => self.count(c),
-            Work::Make => self.make(c),
+            Work::Build(build) => self.build(c, build),
             Work::Command => self.command(c),
+        }
+    }
+
+    /// What a CREATE TABLE does next.
+    #[tactic(auto, using(crate::proofs::RunLemmas::within, crate::proofs::KeptLemmas::grows_none))]
+    fn build(&mut self, c: usize, build: Build) -> Step
+        requires known { c < length self.old.0 }
+        ensures same { self.new.0 ≡ self.old.0 }
+        ensures grows { Grows result self.old.1 self.new.1 }
+        ensures stops { self.new.4 ≡ stop_after result self.old.4 }
+        ensures cause { HasStopped result (S.view self.new.3) }
+        ensures goes { NotEnded result }
+    {
+        match build {
+            Build::Make => self.make(c),
+            Build::Spread => self.spread(c),
+            Build::Lay => self.lay(c),
+            Build::List => self.list(c),
+            Build::Done => self.done(c),
         }
     }
 

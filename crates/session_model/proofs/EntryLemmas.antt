@@ -24,15 +24,16 @@ use Rattle.session_model.proofs.FitLemmas.{fitting_head, fitting_merge}
 use Rattle.session_model.proofs.StableLemmas.{Keeps, pins_stable, kept}
 
 -- AN ENTRY THAT LEAVES THE TABLES ALONE
-pub quiet_others : (a : ℕ) (w : World) (l : Locks) (w' : World) → w'.committed ≡ w.committed → w'.current ≡ w.current → ((t : ℕ) → t ≢ a → w'.txns t ≡ w.txns t)
+pub quiet_others : (a : ℕ) (w : World) (l : Locks) (w' : World) → w'.committed ≡ w.committed → w'.current ≡ w.current → w'.given ≡ w.given → ((t : ℕ) → t ≢ a → w'.txns t ≡ w.txns t)
     → (t : ℕ) → t ≢ a → Others t w l w' l
-quiet_others a w l w' e1 e2 txns t ne = record {
+quiet_others a w l w' e1 e2 e3 txns t ne = record {
   txn = txns t ne;
   reads = λ table rid h. h;
   writes = λ table rid h. h;
   committed = λ table rid h. ap (λ f. f table rid) e1;
   current = λ table rid h. ap (λ f. f table rid) e2;
   whole = λ h table rid. (ap (λ f. f table rid) e1, ap (λ f. f table rid) e2);
+  given = λ h. e3;
 }
 
 quiet_keeps : (a : ℕ) (w : World) (l : Locks) (w' : World) → w'.committed ≡ w.committed → (is_ended (w'.txns a).stage ≡ false → is_ended (w.txns a).stage ≡ false) → Keeps a w l w' l
@@ -44,11 +45,11 @@ same_changes a w w' txns own u = elim (cases_eq u a) [
   | inr ne ↦ ap (λ (x : Txn). x.changes) (sym (txns u ne))
 ]
 
-quiet : (a : ℕ) (w : World) (l : Locks) (w' : World) → w'.committed ≡ w.committed → w'.current ≡ w.current → ((t : ℕ) → t ≢ a → w'.txns t ≡ w.txns t)
+quiet : (a : ℕ) (w : World) (l : Locks) (w' : World) → w'.committed ≡ w.committed → w'.current ≡ w.current → w'.given ≡ w.given → ((t : ℕ) → t ≢ a → w'.txns t ≡ w.txns t)
     → (w'.txns a).changes ≡ (w.txns a).changes → Written l a (w'.txns a).standing → Each (PinRests w' l) w'.pins → Shared w l → Shared w' l
-quiet a w l w' e1 e2 txns changes standing pins s =
+quiet a w l w' e1 e2 e3 txns changes standing pins s =
     let own = s.txns a in
-    kept a w l w' l (quiet_others a w l w' e1 e2 txns) (λ t ne table rid h. h)
+    kept a w l w' l (quiet_others a w l w' e1 e2 e3 txns) (λ t ne table rid h. h)
     (λ t ne. subst (λ f. Fitting f (w.txns t).changes) (sym e1) (s.txns t).fitting)
     (record {
       owned = subst (Written l a) (sym changes) own.owned;
@@ -68,8 +69,8 @@ started_kept a c v q w l open_now s =
     let w' = apply w (Started a c v q) in
     let own : w'.txns a.0 ≡ _ = at_same w.txns a.0 _ in
     let others = λ (t : ℕ) (ne : t ≢ a.0). at_other w.txns a.0 _ t ne in
-    quiet a.0 w l w' refl refl others (ap (λ (x : Txn). x.changes) own) (subst (λ (x : Txn). Written l a.0 x.standing) (sym own) (s.txns a.0).kept)
-    (pins_stable a.0 w l w' l (quiet_others a.0 w l w' refl refl others) (quiet_keeps a.0 w l w' refl (λ h. open_now)) w.pins s.pins) s
+    quiet a.0 w l w' refl refl refl others (ap (λ (x : Txn). x.changes) own) (subst (λ (x : Txn). Written l a.0 x.standing) (sym own) (s.txns a.0).kept)
+    (pins_stable a.0 w l w' l (quiet_others a.0 w l w' refl refl refl others) (quiet_keeps a.0 w l w' refl (λ h. open_now)) w.pins s.pins) s
 
 -- what is told becomes a pin, which rests on what its transaction may read
 pub answered_kept : (a : TxnNo) (n : Answer) (joined : List (List Component)) (from to : ℕ) (w : World) (l : Locks) → (w.txns a.0).stage ≡ running
@@ -79,9 +80,9 @@ answered_kept a n joined from to w l is rests s =
     let w' = apply w (Answered a n joined from to) in
     let own : w'.txns a.0 ≡ _ = at_same w.txns a.0 _ in
     let others = λ (t : ℕ) (ne : t ≢ a.0). at_other w.txns a.0 _ t ne in
-    quiet a.0 w l w' refl refl others (ap (λ (x : Txn). x.changes) own) (subst (λ (x : Txn). Written l a.0 x.standing) (sym own) (s.txns a.0).kept) (
+    quiet a.0 w l w' refl refl refl others (ap (λ (x : Txn). x.changes) own) (subst (λ (x : Txn). Written l a.0 x.standing) (sym own) (s.txns a.0).kept) (
       (λ alive owed. let r = rests owed in record { catalog = r.catalog; number = r.number; rows = r.rows; meant = r.meant }),
-      pins_stable a.0 w l w' l (quiet_others a.0 w l w' refl refl others) (quiet_keeps a.0 w l w' refl (λ h. ap is_ended is)) w.pins s.pins,
+      pins_stable a.0 w l w' l (quiet_others a.0 w l w' refl refl refl others) (quiet_keeps a.0 w l w' refl (λ h. ap is_ended is)) w.pins s.pins,
     ) s
 
 pub refused_kept : (a : TxnNo) (why : Refusal) (w : World) (l : Locks) → is_ended (w.txns a.0).stage ≡ false
@@ -91,9 +92,9 @@ refused_kept a why w l open_now rests s =
     let w' = apply w (Refused a why) in
     let own : w'.txns a.0 ≡ _ = at_same w.txns a.0 _ in
     let others = λ (t : ℕ) (ne : t ≢ a.0). at_other w.txns a.0 _ t ne in
-    quiet a.0 w l w' refl refl others (ap (λ (x : Txn). x.changes) own) (subst (λ (x : Txn). Written l a.0 x.standing) (sym own) (s.txns a.0).kept) (
+    quiet a.0 w l w' refl refl refl others (ap (λ (x : Txn). x.changes) own) (subst (λ (x : Txn). Written l a.0 x.standing) (sym own) (s.txns a.0).kept) (
       (λ alive owed. let r = rests owed in record { catalog = r.catalog; number = r.number; rows = r.rows; meant = r.meant }),
-      pins_stable a.0 w l w' l (quiet_others a.0 w l w' refl refl others) (quiet_keeps a.0 w l w' refl (λ h. open_now)) w.pins s.pins,
+      pins_stable a.0 w l w' l (quiet_others a.0 w l w' refl refl refl others) (quiet_keeps a.0 w l w' refl (λ h. open_now)) w.pins s.pins,
     ) s
 
 pub acknowledged_kept : (a : TxnNo) (w : World) (l : Locks) → Shared w l → Shared (apply w (Acknowledged a)) l
@@ -101,16 +102,16 @@ acknowledged_kept a w l s =
     let w' = apply w (Acknowledged a) in
     let own : w'.txns a.0 ≡ _ = at_same w.txns a.0 _ in
     let others = λ (t : ℕ) (ne : t ≢ a.0). at_other w.txns a.0 _ t ne in
-    quiet a.0 w l w' refl refl others (ap (λ (x : Txn). x.changes) own) (subst (λ (x : Txn). Written l a.0 x.standing) (sym own) tt)
-    (pins_stable a.0 w l w' l (quiet_others a.0 w l w' refl refl others) (quiet_keeps a.0 w l w' refl (λ h. absurd (both_ways _ h (ap (λ (x : Txn). is_ended x.stage) own)))) w.pins s.pins) s
+    quiet a.0 w l w' refl refl refl others (ap (λ (x : Txn). x.changes) own) (subst (λ (x : Txn). Written l a.0 x.standing) (sym own) tt)
+    (pins_stable a.0 w l w' l (quiet_others a.0 w l w' refl refl refl others) (quiet_keeps a.0 w l w' refl (λ h. absurd (both_ways _ h (ap (λ (x : Txn). is_ended x.stage) own)))) w.pins s.pins) s
 
 pub rolled_back_kept : (a : TxnNo) (w : World) (l : Locks) → (w.txns a.0).changes ≡ [] → Shared w l → Shared (apply w (RolledBack a)) l
 rolled_back_kept a w l none s =
     let w' = apply w (RolledBack a) in
     let own : w'.txns a.0 ≡ _ = at_same w.txns a.0 _ in
     let others = λ (t : ℕ) (ne : t ≢ a.0). at_other w.txns a.0 _ t ne in
-    quiet a.0 w l w' refl refl others (ap (λ (x : Txn). x.changes) own ∙ sym none) (subst (λ (x : Txn). Written l a.0 x.standing) (sym own) tt)
-    (pins_stable a.0 w l w' l (quiet_others a.0 w l w' refl refl others) (quiet_keeps a.0 w l w' refl (λ h. absurd (both_ways _ h (ap (λ (x : Txn). is_ended x.stage) own)))) w.pins s.pins) s
+    quiet a.0 w l w' refl refl refl others (ap (λ (x : Txn). x.changes) own ∙ sym none) (subst (λ (x : Txn). Written l a.0 x.standing) (sym own) tt)
+    (pins_stable a.0 w l w' l (quiet_others a.0 w l w' refl refl refl others) (quiet_keeps a.0 w l w' refl (λ h. absurd (both_ways _ h (ap (λ (x : Txn). is_ended x.stage) own)))) w.pins s.pins) s
 
 -- who relies on the catalog keeps everybody else from writing it
 catalog_alone : (a t : ℕ) (l : Locks) → Fits l → ReadsCatalog l a → t ≢ a → WritesCatalog l t → (rid : RowId) → ⊥
@@ -131,6 +132,7 @@ did_others a table rid old new w l fits x catalog t ne = record {
   committed = λ b r h. refl;
   current = λ b r h. put_elsewhere w.current table rid new b r (not_there a.0 t table rid l fits x ne b r h);
   whole = λ h b r. absurd (catalog_alone a.0 t l fits catalog ne h rid);
+  given = λ h. absurd (catalog_alone a.0 t l fits catalog ne h rid);
 }
 
 pub did_kept : (a : TxnNo) (table : ℕ) (rid : RowId) (old new : Option (List Value)) (w : World) (l : Locks) → l.writes a.0 table rid ≡ true → ReadsCatalog l a.0
@@ -182,6 +184,7 @@ undone_others a n m older w l fits top x catalog t ne = record {
   committed = λ b r h. refl;
   current = λ b r h. ap (λ ms. newest_undone ms w.current b r) top ∙ put_elsewhere w.current m.change.table m.change.rid m.change.old b r (not_there a.0 t m.change.table m.change.rid l fits x ne b r h);
   whole = λ h b r. absurd (catalog_alone a.0 t l fits catalog ne h m.change.rid);
+  given = λ h. refl;
 }
 
 undone_seen : (m : Made) (ms : List Made) (f g : Tables) (b : ℕ) (r : RowId) → f b r ≡ laid_over (m ∷ ms) g b r → m.change.old ≡ laid_over ms g m.change.table m.change.rid
@@ -254,6 +257,7 @@ committed_others a w l s t ne = record {
     ],
     refl,
   );
+  given = λ h. refl;
 }
 
 -- who relies on the catalog beside another who does has not touched it

@@ -72,6 +72,7 @@ grew_others w l l' h t = record {
   committed = λ table rid x. refl;
   current = λ table rid x. refl;
   whole = λ x table rid. (refl, refl);
+  given = λ x. refl;
 }
 
 pub grew_kept : (w : World) (l l' : Locks) → Grew l l' → Shared w l → Shared w l'
@@ -107,6 +108,7 @@ left_others a w l l' h t ne = record {
   committed = λ table rid x. refl;
   current = λ table rid x. refl;
   whole = λ x table rid. (refl, refl);
+  given = λ x. refl;
 }
 
 pub left_kept : (a : ℕ) (w : World) (l l' : Locks) → Left a w l l' → Shared w l → Shared w l'

@@ -1,7 +1,9 @@
 -- When a journal is legal, over the tables that it opened with and for the scripts of its connections.
 use Rattle.std.specs.Prelude.{◌≡◌, ◌≢◌, ◌<◌, ◌≤◌, ◌+◌, ℕ, List, [], ◌∷◌, ◌++◌, length, map, take, Option, Some, None, Bool, true, false, ◌&&◌, ◌||◌, slice_index_or}
 use Rattle.dby_types.specs.declared.answer.Answer.{Answer}
+use Rattle.dby_types.specs.declared.answer.Answer.TheVariants.{Done}
 use Rattle.dby_types.specs.declared.answer.Component.{Component}
+use Rattle.dby_types.specs.declared.definition.ColumnDef.{ColumnDef}
 use Rattle.dby_types.specs.declared.definition.TableDef.{TableDef}
 use Rattle.dby_types.specs.declared.number.Level.{Level}
 use Rattle.dby_types.specs.declared.number.Level.TheVariants.{Rr}
@@ -24,10 +26,10 @@ use Rattle.journal_model.specs.declared.journal.Entry.TheVariants.{Started, Did,
 use Rattle.journal_model.specs.declared.journal.Refusal.{Refusal}
 use Rattle.journal_model.specs.declared.journal.Refusal.TheVariants.{Sql, Memory}
 use Rattle.journal_model.specs.World.{given_by}
-use Rattle.journal_model.specs.Catalog.{Defines}
+use Rattle.journal_model.specs.Catalog.{Defines, table_row, column_rows}
 use Rattle.journal_model.specs.Meaning.{Names, NullIn}
 use Rattle.journal_model.specs.Levels.{ReadsCommitted, meets, row_of}
-use Rattle.journal_model.specs.Legal.{statement_of, Agrees, AnswersSelect, AnswersInsert, AnswersCreate, CommitsFit}
+use Rattle.journal_model.specs.Legal.{statement_of, Wrote, written, row_put, Agrees, AnswersSelect, AnswersInsert, CommitsFit}
 use Rattle.session_model.specs.declared.journal.Locked.{Locked}
 use Rattle.session_model.specs.declared.order.Order.{Order}
 use Rattle.session_model.specs.declared.order.Order.TheVariants.{Command as bids, Form as runs}
@@ -111,6 +113,17 @@ pub record AnswersCommand (told : Answer) (answer : Answer) (joined : List (List
   pub is_told : answer ≡ told
   pub unread : joined ≡ []
   pub none : own ≡ []
+
+-- the catalog rows of a new table, in order: its columns, and then the table that has them
+abbrev pub puts_of : ℕ → List ℕ → List ColumnDef → List Wrote
+puts_of number name columns = map (row_put 2) (column_rows number 0 columns) ++ row_put 1 (table_row number name) ∷ []
+
+-- a CREATE TABLE: its catalog rows, each where none was
+pub record AnswersCreate (name : List ℕ) (columns : List ColumnDef) (answer : Answer) (joined : List (List Component)) (own : List Made) : Type 0 where
+  pub number : ℕ
+  pub puts : written own ≡ puts_of number name columns
+  pub told : answer ≡ Done
+  pub unread : joined ≡ []
 
 -- the relation of an answer to its statement, over the views of its span, with the changes of its own
 abbrev pub Owes : Option Order → (ℕ → Tables) → ℕ → ℕ → Answer → List (List Component) → List Made → Type 0

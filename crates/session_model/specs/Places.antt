@@ -104,6 +104,8 @@ pub record Others (t : ℕ) (w : World) (l : Locks) (w' : World) (l' : Locks) : 
   pub current : (table : ℕ) (rid : RowId) → l.reads t table rid ≡ true → w'.current table rid ≡ w.current table rid
   -- who may write the catalog is alone: nothing at all changes beside it
   pub whole : WritesCatalog l t → (table : ℕ) (rid : RowId) → (w'.committed table rid ≡ w.committed table rid) × (w'.current table rid ≡ w.current table rid)
+  -- and no number is given to a table
+  pub given : WritesCatalog l t → w'.given ≡ w.given
 
 -- LOCKS GROW, by a grant
 pub record Grew (l l' : Locks) : Type 0 where

@@ -48,7 +48,7 @@ invariant_of-self-in-Some g c =
     let fit = c.self.invariant.room.entries_fit in
     let room = room_for c.self.inside.entries c.self.inside.events c.self.inside.sessions.items (lock c.self.inside.locks) c.self.inside.owed c.self.inside.owed_events c.args.c 1 r c.self.invariant.room lt at (omega (arith, needs)) in
     record {
-      holds = rw c.put.ensures.items (undoes_transaction (state c.self.inside.entries c.self.inside.events c.self.inside.locks c.self.inside.sessions.items (g.S.RowStore.view c.self.inside.store) c.self.inside.tables.entries)
+      holds = rw (c.put.ensures.items, c.unlist.ensures) (undoes_transaction (state c.self.inside.entries c.self.inside.events c.self.inside.locks c.self.inside.sessions.items (g.S.RowStore.view c.self.inside.store) c.self.inside.tables.entries)
           c.self.inside.last c.args.c r c.pop.new.self (g.S.RowStore.view c.undo_one.new.self) c.in-Some.did _ _ back.0 back.1.rest lt at is c.in-true.is popped back.1.newest back.1.stored.stored
           (λ b ne. c.in-Ok-Undid.ensures.frame.others b (λ e. ne (e ∙ actor))) c.in-Ok-Undid.ensures.frame.limit_same c.self.invariant.holds);
       room = room_after c.self.inside.entries c.put.new.items c.self.inside.events c.self.inside.events c.self.inside.sessions.items (lock c.self.inside.locks) (lock c.self.inside.locks)

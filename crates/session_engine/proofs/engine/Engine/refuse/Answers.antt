@@ -44,7 +44,7 @@ invariant_of-self-in-Some g c =
     let back = (subst (λ u. Undoes c.actor_of-actor.result c.index_mut-session.result.now.txn.0 c.index_mut-session.result.now.mark (g.S.RowStore.view c.self.inside.store) (g.S.RowStore.view c.undo_one.new.self) u) c.in-Ok-Undid.field-0-is c.in-Ok-Undid.ensures.ok).0 in
     let popped = c.in-Some.ensures.items in
     let done = subst (λ u. IsTrue (is_done u) ↔ (length (changes_in ((g.S.RowStore.view c.self.inside.store).content.changes r.txn.0)) ≡ r.mark)) c.in-Ok-Undid.field-0-is c.in-Ok-Undid.ensures.done in
-    let more_than : length (Changed c.in-Ok-Undid._table c.in-Ok-Undid._rid back.0 ∷ back.1.rest) ≢ r.mark = λ same. not_done (done.1 (ap (λ i. length (changes_in i)) back.1.newest ∙ same)) in
+    let more_than : length (Changed c.in-Ok-Undid.table c.in-Ok-Undid._rid back.0 ∷ back.1.rest) ≢ r.mark = λ same. not_done (done.1 (ap (λ i. length (changes_in i)) back.1.newest ∙ same)) in
     let more = length-append c.pop.new.self.items (c.in-Some.did ∷ []) in
     let fewer : length r.made.items ≡ length c.pop.new.self.items + 1 = ap length popped ∙ more in
     let put_len = c.put.ensures.len in
@@ -52,7 +52,7 @@ invariant_of-self-in-Some g c =
     let fit = c.self.invariant.room.entries_fit in
     let room = room_for c.self.inside.entries c.self.inside.events c.self.inside.sessions.items (lock c.self.inside.locks) c.self.inside.owed c.self.inside.owed_events c.args.c 1 r c.self.invariant.room lt at (omega (arith, needs)) in
     record {
-      holds = rw c.put.ensures.items (undoes_statement (state c.self.inside.entries c.self.inside.events c.self.inside.locks c.self.inside.sessions.items (g.S.RowStore.view c.self.inside.store) c.self.inside.tables.entries)
+      holds = rw (c.put.ensures.items, c.unlist.ensures) (undoes_statement (state c.self.inside.entries c.self.inside.events c.self.inside.locks c.self.inside.sessions.items (g.S.RowStore.view c.self.inside.store) c.self.inside.tables.entries)
           c.self.inside.last c.args.c r c.pop.new.self (g.S.RowStore.view c.undo_one.new.self) with.why c.in-Some.did _ _ back.0 back.1.rest lt at is with.planned popped back.1.newest more_than back.1.stored.stored
           (λ b ne. c.in-Ok-Undid.ensures.frame.others b (λ e. ne (e ∙ actor))) c.in-Ok-Undid.ensures.frame.limit_same c.self.invariant.holds);
       room = room_after c.self.inside.entries c.put.new.items c.self.inside.events c.self.inside.events c.self.inside.sessions.items (lock c.self.inside.locks) (lock c.self.inside.locks)

@@ -1,0 +1,148 @@
+use Rattle.std.proofs.Common.{◌≡◌, ◌≢◌, ◌-◌, ◌<◌, length, refl, sym, ◌∙◌, ap, subst, arith, Some, None, true, inl, inr}
+use Rattle.dby_types.specs.declared.state.SqlState.TheVariants as state
+use Rattle.std.proofs.lemmas.Bool.{both_ways}
+use Rattle.session_engine.specs.Engine.{state as state_of}
+use Rattle.session_engine.specs.Filling.{IsRoomy}
+use Rattle.session_engine.specs.State.{ends_in, opens}
+use Rattle.session_engine.proofs.CountLemmas.{may_hold}
+use Rattle.session_engine.proofs.ReadLemmas.{working_owes}
+use Rattle.session_engine.specs.Listing.{table_at}
+use Rattle.session_engine.proofs.FillLemmas.{engine_with}
+use Rattle.session_engine.proofs.MakeLemmas.{Making, next_described, make_starves, make_spent, make_roomy}
+use Rattle.session_engine.proofs.engine.Engine.spread.Goals as goal
+
+pub room_for_row-requires-clause-described : goal.room_for_row-requires-clause-described
+room_for_row-requires-clause-described g c =
+    let lt : c.args.c < length c.self.inside.sessions.items = omega arith in
+    let st = state_of c.self.inside.entries c.self.inside.events c.self.inside.locks c.self.inside.sessions.items (g.S.RowStore.view c.self.inside.store) c.self.inside.tables.entries in
+    let r = c.index_mut-session.result.now in
+    let at = c.index_mut-session.ensures.value in
+    let make = c.in-Create.make in
+    let actor = c.actor_of-actor.ensures in
+    let h : Making st c.self.inside.last c.args.c c.index_mut-session.result.now c.in-Create.make = record { within = lt; at = at; phase = c.in-Working.is; planned = c.in-Create.is; holds = c.self.invariant.holds } in
+    subst (λ n. (g.S.RowStore.view c.self.inside.store).content.columns n ≢ None) (sym c.table_of_next.ensures) (next_described st c.self.inside.last c.args.c r make h)
+
+pub room_for_row-requires-clause-few : goal.room_for_row-requires-clause-few
+room_for_row-requires-clause-few g c =
+    may_hold (state_of c.self.inside.entries c.self.inside.events c.self.inside.locks c.self.inside.sessions.items (g.S.RowStore.view c.self.inside.store) c.self.inside.tables.entries) c.self.inside.last _ c.self.invariant.holds
+
+pub invariant_of-self-in-Ok-Made : goal.invariant_of-self-in-Ok-Made
+invariant_of-self-in-Ok-Made g c =
+    let lt : c.args.c < length c.self.inside.sessions.items = omega arith in
+    let st = state_of c.self.inside.entries c.self.inside.events c.self.inside.locks c.self.inside.sessions.items (g.S.RowStore.view c.self.inside.store) c.self.inside.tables.entries in
+    let r = c.index_mut-session.result.now in
+    let at = c.index_mut-session.ensures.value in
+    let make = c.in-Create.make in
+    let actor = c.actor_of-actor.ensures in
+    let h : Making st c.self.inside.last c.args.c c.index_mut-session.result.now c.in-Create.make = record { within = lt; at = at; phase = c.in-Working.is; planned = c.in-Create.is; holds = c.self.invariant.holds } in
+    engine_with c.self.inside.entries c.self.inside.entries c.self.inside.events c.self.inside.locks c.self.inside.sessions.items (g.S.RowStore.view c.self.inside.store) (g.S.RowStore.view c.room_for_row.new.store) c.self.inside.tables.entries c.self.inside.last c.self.inside.owed c.self.inside.owed c.self.inside.owed_events c.args.c r _ c.self.invariant lt at
+    refl refl c.self.invariant.room.entries_fit
+    (make_roomy st c.self.inside.last c.args.c r make true (g.S.RowStore.view c.room_for_row.new.store) h c.in-true.is (record { content = c.in-Ok-Made.ensures.moves.content; others = λ b ne. c.in-Ok-Made.ensures.moves.others b (λ e. ne (e ∙ actor)); limit_same = c.in-Ok-Made.ensures.moves.limit_same }) (λ on. subst (λ a. ((g.S.RowStore.view c.room_for_row.new.store).actors a).room ≡ Some (table_at c.in-Create.make.done c.in-Create.make.def.columns)) actor (subst (IsRoomy c.actor_of-actor.result c.table_of_next.result (g.S.RowStore.view c.self.inside.store) (g.S.RowStore.view c.room_for_row.new.store)) c.in-Ok-Made.field-0-is c.in-Ok-Made.ensures.made ∙ ap Some c.table_of_next.ensures)))
+
+pub invariant_of-self-in-Ok-Onward : goal.invariant_of-self-in-Ok-Onward
+invariant_of-self-in-Ok-Onward g c =
+    let lt : c.args.c < length c.self.inside.sessions.items = omega arith in
+    let st = state_of c.self.inside.entries c.self.inside.events c.self.inside.locks c.self.inside.sessions.items (g.S.RowStore.view c.self.inside.store) c.self.inside.tables.entries in
+    let r = c.index_mut-session.result.now in
+    let at = c.index_mut-session.ensures.value in
+    let make = c.in-Create.make in
+    let actor = c.actor_of-actor.ensures in
+    let h : Making st c.self.inside.last c.args.c c.index_mut-session.result.now c.in-Create.make = record { within = lt; at = at; phase = c.in-Working.is; planned = c.in-Create.is; holds = c.self.invariant.holds } in
+    engine_with c.self.inside.entries c.self.inside.entries c.self.inside.events c.self.inside.locks c.self.inside.sessions.items (g.S.RowStore.view c.self.inside.store) (g.S.RowStore.view c.room_for_row.new.store) c.self.inside.tables.entries c.self.inside.last c.self.inside.owed c.self.inside.owed c.self.inside.owed_events c.args.c r _ c.self.invariant lt at
+    refl refl c.self.invariant.room.entries_fit
+    (make_roomy st c.self.inside.last c.args.c r make c.in-Create.make.has_room (g.S.RowStore.view c.room_for_row.new.store) h c.in-true.is (record { content = c.in-Ok-Onward.ensures.moves.content; others = λ b ne. c.in-Ok-Onward.ensures.moves.others b (λ e. ne (e ∙ actor)); limit_same = c.in-Ok-Onward.ensures.moves.limit_same }) (λ on. absurd (both_ways c.in-Create.make.has_room c.in-false.is on)))
+
+pub invariant_of-self-in-Ok-Held : goal.invariant_of-self-in-Ok-Held
+invariant_of-self-in-Ok-Held g c =
+    let lt : c.args.c < length c.self.inside.sessions.items = omega arith in
+    let st = state_of c.self.inside.entries c.self.inside.events c.self.inside.locks c.self.inside.sessions.items (g.S.RowStore.view c.self.inside.store) c.self.inside.tables.entries in
+    let r = c.index_mut-session.result.now in
+    let at = c.index_mut-session.ensures.value in
+    let make = c.in-Create.make in
+    let actor = c.actor_of-actor.ensures in
+    let h : Making st c.self.inside.last c.args.c c.index_mut-session.result.now c.in-Create.make = record { within = lt; at = at; phase = c.in-Working.is; planned = c.in-Create.is; holds = c.self.invariant.holds } in
+    engine_with c.self.inside.entries c.self.inside.entries c.self.inside.events c.self.inside.locks c.self.inside.sessions.items (g.S.RowStore.view c.self.inside.store) (g.S.RowStore.view c.let_go.new.self) c.self.inside.tables.entries c.self.inside.last c.self.inside.owed c.self.inside.owed c.self.inside.owed_events c.args.c r _ c.self.invariant lt at
+    refl refl c.self.invariant.room.entries_fit
+    (make_roomy st c.self.inside.last c.args.c r make c.in-Create.make.has_room (g.S.RowStore.view c.let_go.new.self) h c.in-true.is (record { content = c.let_go.ensures.same ∙ c.in-Ok-Held.ensures.moves.content; others = λ b ne. c.let_go.ensures.frame.others b (λ e. ne (e ∙ actor)) ∙ c.in-Ok-Held.ensures.moves.others b (λ e. ne (e ∙ actor)); limit_same = c.let_go.ensures.frame.limit_same ∙ c.in-Ok-Held.ensures.moves.limit_same }) (λ on. absurd (both_ways c.in-Create.make.has_room c.in-false.is on)))
+
+pub invariant_of-self-in-Err : goal.invariant_of-self-in-Err
+invariant_of-self-in-Err g c =
+    let lt : c.args.c < length c.self.inside.sessions.items = omega arith in
+    let st = state_of c.self.inside.entries c.self.inside.events c.self.inside.locks c.self.inside.sessions.items (g.S.RowStore.view c.self.inside.store) c.self.inside.tables.entries in
+    let r = c.index_mut-session.result.now in
+    let at = c.index_mut-session.ensures.value in
+    let make = c.in-Create.make in
+    let actor = c.actor_of-actor.ensures in
+    let h : Making st c.self.inside.last c.args.c c.index_mut-session.result.now c.in-Create.make = record { within = lt; at = at; phase = c.in-Working.is; planned = c.in-Create.is; holds = c.self.invariant.holds } in
+    engine_with c.self.inside.entries c.self.inside.entries c.self.inside.events c.self.inside.locks c.self.inside.sessions.items (g.S.RowStore.view c.self.inside.store) (g.S.RowStore.view c.room_for_row.new.store) c.self.inside.tables.entries c.self.inside.last c.self.inside.owed c.self.inside.owed c.self.inside.owed_events c.args.c r _ c.self.invariant lt at
+    refl refl c.self.invariant.room.entries_fit
+    (make_roomy st c.self.inside.last c.args.c r make c.in-Create.make.has_room (g.S.RowStore.view c.room_for_row.new.store) h c.in-true.is (record { content = c.in-Err.ensures.moves.content; others = λ b ne. c.in-Err.ensures.moves.others b (λ e. ne (e ∙ actor)); limit_same = c.in-Err.ensures.moves.limit_same }) (λ on. absurd (both_ways c.in-Create.make.has_room c.in-false.is on)))
+
+pub overflow_sub-self : goal.overflow_sub-self
+overflow_sub-self g c =
+    let lt : c.args.c < length c.self.inside.sessions.items = omega arith in
+    let one = (working_owes c.self.inside.entries c.self.inside.events c.self.inside.locks c.self.inside.sessions.items (g.S.RowStore.view c.self.inside.store) c.self.inside.tables.entries c.self.inside.last c.self.inside.owed c.self.inside.owed_events c.args.c c.index_mut-session.result.now c.self.invariant lt c.index_mut-session.ensures.value c.in-Working.is).0 in
+    omega (arith, one)
+
+pub overflow_sub-self-in-Ok-NoLog : goal.overflow_sub-self-in-Ok-NoLog
+overflow_sub-self-in-Ok-NoLog g c =
+    let lt : c.args.c < length c.self.inside.sessions.items = omega arith in
+    let one = (working_owes c.self.inside.entries c.self.inside.events c.self.inside.locks c.self.inside.sessions.items (g.S.RowStore.view c.self.inside.store) c.self.inside.tables.entries c.self.inside.last c.self.inside.owed c.self.inside.owed_events c.args.c c.index_mut-session.result.now c.self.invariant lt c.index_mut-session.ensures.value c.in-Working.is).0 in
+    omega (arith, one)
+
+pub overflow_sub-self-in-Err-Memory : goal.overflow_sub-self-in-Err-Memory
+overflow_sub-self-in-Err-Memory g c =
+    let lt : c.args.c < length c.self.inside.sessions.items = omega arith in
+    let one = (working_owes c.self.inside.entries c.self.inside.events c.self.inside.locks c.self.inside.sessions.items (g.S.RowStore.view c.self.inside.store) c.self.inside.tables.entries c.self.inside.last c.self.inside.owed c.self.inside.owed_events c.args.c c.index_mut-session.result.now c.self.invariant lt c.index_mut-session.ensures.value c.in-Working.is).0 in
+    omega (arith, one)
+
+pub invariant_of-self-in-Ok-NoPages : goal.invariant_of-self-in-Ok-NoPages
+invariant_of-self-in-Ok-NoPages g c =
+    let lt : c.args.c < length c.self.inside.sessions.items = omega arith in
+    let st = state_of c.self.inside.entries c.self.inside.events c.self.inside.locks c.self.inside.sessions.items (g.S.RowStore.view c.self.inside.store) c.self.inside.tables.entries in
+    let r = c.index_mut-session.result.now in
+    let at = c.index_mut-session.ensures.value in
+    let make = c.in-Create.make in
+    let actor = c.actor_of-actor.ensures in
+    let h : Making st c.self.inside.last c.args.c c.index_mut-session.result.now c.in-Create.make = record { within = lt; at = at; phase = c.in-Working.is; planned = c.in-Create.is; holds = c.self.invariant.holds } in
+    let needs : ends_in r.phase ≡ 3 = ap ends_in c.in-Working.is in
+    let opened : opens r.phase ≡ 1 = ap opens c.in-Working.is in
+    let one = (working_owes c.self.inside.entries c.self.inside.events c.self.inside.locks c.self.inside.sessions.items (g.S.RowStore.view c.self.inside.store) c.self.inside.tables.entries c.self.inside.last c.self.inside.owed c.self.inside.owed_events c.args.c c.index_mut-session.result.now c.self.invariant lt c.index_mut-session.ensures.value c.in-Working.is).0 in
+    let fit = c.self.invariant.room.entries_fit in
+    rw c.run_out.ensures (engine_with c.self.inside.entries c.self.inside.entries c.self.inside.events c.self.inside.locks c.self.inside.sessions.items (g.S.RowStore.view c.self.inside.store) (g.S.RowStore.view c.room_for_row.new.store) c.self.inside.tables.entries c.self.inside.last c.self.inside.owed (c.self.inside.owed - 1) c.self.inside.owed_events c.args.c r _ c.self.invariant lt at
+    (omega (arith, needs, one)) (omega (arith, opened)) (omega (arith, fit, one))
+    (make_spent st c.self.inside.last c.args.c r make state.PagesSpent (g.S.RowStore.view c.room_for_row.new.store) h (record { content = c.in-Ok-NoPages.ensures.moves.content; others = λ b ne. c.in-Ok-NoPages.ensures.moves.others b (λ e. ne (e ∙ actor)); limit_same = c.in-Ok-NoPages.ensures.moves.limit_same }) (inl refl)))
+
+pub invariant_of-self-in-Ok-NoLog : goal.invariant_of-self-in-Ok-NoLog
+invariant_of-self-in-Ok-NoLog g c =
+    let lt : c.args.c < length c.self.inside.sessions.items = omega arith in
+    let st = state_of c.self.inside.entries c.self.inside.events c.self.inside.locks c.self.inside.sessions.items (g.S.RowStore.view c.self.inside.store) c.self.inside.tables.entries in
+    let r = c.index_mut-session.result.now in
+    let at = c.index_mut-session.ensures.value in
+    let make = c.in-Create.make in
+    let actor = c.actor_of-actor.ensures in
+    let h : Making st c.self.inside.last c.args.c c.index_mut-session.result.now c.in-Create.make = record { within = lt; at = at; phase = c.in-Working.is; planned = c.in-Create.is; holds = c.self.invariant.holds } in
+    let needs : ends_in r.phase ≡ 3 = ap ends_in c.in-Working.is in
+    let opened : opens r.phase ≡ 1 = ap opens c.in-Working.is in
+    let one = (working_owes c.self.inside.entries c.self.inside.events c.self.inside.locks c.self.inside.sessions.items (g.S.RowStore.view c.self.inside.store) c.self.inside.tables.entries c.self.inside.last c.self.inside.owed c.self.inside.owed_events c.args.c c.index_mut-session.result.now c.self.invariant lt c.index_mut-session.ensures.value c.in-Working.is).0 in
+    let fit = c.self.invariant.room.entries_fit in
+    rw c.run_out-in-Ok-NoLog.ensures (engine_with c.self.inside.entries c.self.inside.entries c.self.inside.events c.self.inside.locks c.self.inside.sessions.items (g.S.RowStore.view c.self.inside.store) (g.S.RowStore.view c.room_for_row.new.store) c.self.inside.tables.entries c.self.inside.last c.self.inside.owed (c.self.inside.owed - 1) c.self.inside.owed_events c.args.c r _ c.self.invariant lt at
+    (omega (arith, needs, one)) (omega (arith, opened)) (omega (arith, fit, one))
+    (make_spent st c.self.inside.last c.args.c r make state.LogSpent (g.S.RowStore.view c.room_for_row.new.store) h (record { content = c.in-Ok-NoLog.ensures.moves.content; others = λ b ne. c.in-Ok-NoLog.ensures.moves.others b (λ e. ne (e ∙ actor)); limit_same = c.in-Ok-NoLog.ensures.moves.limit_same }) (inr refl)))
+
+pub invariant_of-self-in-Err-Memory : goal.invariant_of-self-in-Err-Memory
+invariant_of-self-in-Err-Memory g c =
+    let lt : c.args.c < length c.self.inside.sessions.items = omega arith in
+    let st = state_of c.self.inside.entries c.self.inside.events c.self.inside.locks c.self.inside.sessions.items (g.S.RowStore.view c.self.inside.store) c.self.inside.tables.entries in
+    let r = c.index_mut-session.result.now in
+    let at = c.index_mut-session.ensures.value in
+    let make = c.in-Create.make in
+    let actor = c.actor_of-actor.ensures in
+    let h : Making st c.self.inside.last c.args.c c.index_mut-session.result.now c.in-Create.make = record { within = lt; at = at; phase = c.in-Working.is; planned = c.in-Create.is; holds = c.self.invariant.holds } in
+    let needs : ends_in r.phase ≡ 3 = ap ends_in c.in-Working.is in
+    let opened : opens r.phase ≡ 1 = ap opens c.in-Working.is in
+    let one = (working_owes c.self.inside.entries c.self.inside.events c.self.inside.locks c.self.inside.sessions.items (g.S.RowStore.view c.self.inside.store) c.self.inside.tables.entries c.self.inside.last c.self.inside.owed c.self.inside.owed_events c.args.c c.index_mut-session.result.now c.self.invariant lt c.index_mut-session.ensures.value c.in-Working.is).0 in
+    let fit = c.self.invariant.room.entries_fit in
+    rw c.starve.ensures (engine_with c.self.inside.entries c.self.inside.entries c.self.inside.events c.self.inside.locks c.self.inside.sessions.items (g.S.RowStore.view c.self.inside.store) (g.S.RowStore.view c.room_for_row.new.store) c.self.inside.tables.entries c.self.inside.last c.self.inside.owed (c.self.inside.owed - 1) c.self.inside.owed_events c.args.c r _ c.self.invariant lt at
+    (omega (arith, needs, one)) (omega (arith, opened)) (omega (arith, fit, one))
+    (make_starves st c.self.inside.last c.args.c r make r.made (g.S.RowStore.view c.room_for_row.new.store) h (record { content = c.in-Err-Memory.ensures.moves.content; others = λ b ne. c.in-Err-Memory.ensures.moves.others b (λ e. ne (e ∙ actor)); limit_same = c.in-Err-Memory.ensures.moves.limit_same }) refl))
