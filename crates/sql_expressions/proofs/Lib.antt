@@ -1,0 +1,4 @@
+pub mod Closing
+pub mod MemberLists
+pub mod Naming
+pub mod Turning

@@ -1,0 +1,4 @@
+pub mod View
+pub mod Capped
+pub mod Shape
+pub mod State
