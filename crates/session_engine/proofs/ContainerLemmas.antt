@@ -1,16 +1,13 @@
 -- A container that a transaction made is taken back: nothing stood in it, and the journal says nothing of it.
-use Rattle.std.proofs.Common.{◌≡◌, ◌≢◌, ℕ, ◌+◌, ◌<◌, List, [], ◌∷◌, ◌++◌, length, set, get_or, Bool, true, false, refl, sym, ◌∙◌, ap, subst, arith, inl, inr, Option, Some, None}
+use Rattle.std.proofs.Common.{◌≡◌, ◌≢◌, ℕ, ◌+◌, ◌<◌, List, [], ◌∷◌, ◌++◌, length, set, get_or, true, false, refl, sym, ◌∙◌, ap, subst, arith, inl, inr, Option, Some, None}
 use Rattle.std.specs.Prelude.{◌⊎◌, ◌==◌, if◌then◌else◌}
 use Rattle.std.proofs.lemmas.Bool.{both_ways, cases_Bool, cases_eq, ne_eqb}
 use Rattle.std.proofs.lemmas.Bool.Decides.{nat_tests}
-use Rattle.dby_types.specs.declared.definition.TableDef.{TableDef}
 use Rattle.dby_types.specs.declared.number.RowId.{RowId}
-use Rattle.dby_types.specs.declared.value.Value.{Value}
 use Rattle.lock_modes.specs.Lock.{Lock}
 use Rattle.table_model.specs.Tables.{Tables, Made, Each, laid_over}
 use Rattle.store_api.specs.declared.slot.Item.{Item}
 use Rattle.store_api.specs.declared.slot.Item.TheVariants.{Changed, Created, Discarded}
-use Rattle.store_api.specs.declared.slot.Slot.{Slot}
 use Rattle.store_api.specs.Catalog.{catalog_columns}
 use Rattle.store_api.specs.Effects.{TakesBack, taken_back, without_container}
 use Rattle.store_api.specs.View.{View, Content, Heaps, live, at_number, changes_in}
@@ -19,13 +16,13 @@ use Rattle.journal_model.proofs.BaseLemmas.{at_same, at_other}
 use Rattle.session_model.specs.World.{World, Txn}
 use Rattle.session_model.specs.Places.{Locks, Shared, Fits, ReadsCatalog, WritesCatalog, locks_of, is_catalog, touches}
 use Rattle.session_model.proofs.PlaceLemmas.{touched_written, untouched}
-use Rattle.session_model.proofs.FitLemmas.{SameCatalog, defines_same}
+use Rattle.session_model.proofs.FitLemmas.{defines_same}
 use Rattle.session_engine.specs.declared.session.Phase.TheVariants.{Refusing, Leaving}
 use Rattle.session_engine.specs.declared.session.Plan.TheVariants as plan
 use Rattle.session_engine.specs.declared.session.Session.{Session}
 use Rattle.session_engine.specs.Dictionary.{Named, Among, definition_of}
 use Rattle.session_engine.specs.Listed.{Cataloged}
-use Rattle.session_engine.specs.State.{State, Holds, Busy, Refuses, RefusesFor, Stands, Mirrors, Reflects, HaveSlots, IsNewContainer, AreNew, MakesAlone, PhaseHolds, WaitsNot, IsOpened, has_made, world_of, txn_of}
+use Rattle.session_engine.specs.State.{State, Holds, Busy, Refuses, RefusesFor, Stands, Mirrors, Reflects, IsNewContainer, AreNew, MakesAlone, PhaseHolds, WaitsNot, IsOpened, world_of, txn_of}
 use Rattle.session_engine.proofs.MoveLemmas.{moved}
 use Rattle.session_engine.proofs.StepLemmas.{own_session, phase_at, stepping}
 

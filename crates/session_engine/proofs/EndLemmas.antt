@@ -24,11 +24,10 @@ use Rattle.journal_model.specs.declared.journal.Entry.TheVariants as entry
 use Rattle.journal_model.specs.World.{at_number as number_at}
 use Rattle.journal_model.proofs.BaseLemmas.{at_same, at_other}
 use Rattle.session_model.specs.World.{World, Txn, Conn, Stage, opening, resting, leaving, settled, over, apply, after_undone, closes_by_undone, is_returnable, is_untold, is_leaving}
-use Rattle.session_model.specs.Places.{Locks, Fits, Written, locks_of, is_catalog}
-use Rattle.session_model.proofs.PlaceLemmas.{here, elsewhere, put_elsewhere, rid_is}
+use Rattle.session_model.specs.Places.{Locks, Fits, Written, locks_of}
+use Rattle.session_model.proofs.PlaceLemmas.{here, rid_is}
 use Rattle.session_model.proofs.BaseLemmas.{replay_push}
 use Rattle.session_model.proofs.EntryLemmas.{quiet_others, acknowledged_kept, rolled_back_kept, undone_others, undone_kept, lawful_of}
-use Rattle.session_model.proofs.FitLemmas.{SameCatalog, defines_same, other_way}
 use Rattle.session_engine.specs.declared.session.Phase.TheVariants.{Idle, Resting, Refusing, Acknowledging, Leaving}
 use Rattle.session_engine.specs.declared.session.Plan.{Plan}
 use Rattle.session_engine.specs.declared.session.Plan.TheVariants as plan

@@ -1,7 +1,6 @@
 -- What a step leaves of the journal, way by way.
-use Rattle.std.proofs.Common.{◌≡◌, ℕ, zero, suc, ◌+◌, ◌<◌, ◌≤◌, List, [], ◌∷◌, ◌++◌, length, set, get_or, Bool, true, false, refl, sym, ◌∙◌, ap, subst, arith, append-nil, append_assoc, Option, inl, inr}
-use Rattle.std.specs.Prelude.{◌⊎◌, Result, Ok, Err, OnOk, IfErr, Some, None}
-use Rattle.table_model.specs.Tables.{Each}
+use Rattle.std.proofs.Common.{◌≡◌, ℕ, ◌≤◌, List, [], ◌∷◌, ◌++◌, set, get_or, Bool, true, false, refl, sym, ◌∙◌, ap, subst, arith, append-nil, append_assoc, Option, inl, inr}
+use Rattle.std.specs.Prelude.{◌⊎◌, Result, Ok, Err, IfErr, Some}
 use Rattle.store_api.specs.View.{View, Content, Meters}
 use Rattle.store_api.specs.Frames.{HasCause}
 use Rattle.store_api.specs.declared.answers.StoreAnswer.{StoreAnswer}

@@ -1,48 +1,47 @@
 -- A CREATE TABLE puts its catalog rows, those of its columns and then its own, and is answered behind them.
-use Rattle.std.proofs.Common.{◌≡◌, ◌≢◌, ℕ, zero, suc, ◌+◌, ◌<◌, ◌≤◌, List, [], ◌∷◌, ◌++◌, length, map, set, get_or, take, Bool, true, false, refl, sym, ◌∙◌, ap, subst, arith, inl, inr, Some, None, Vec, Global, length-append}
+use Rattle.std.proofs.Common.{◌≡◌, ◌≢◌, ℕ, zero, suc, ◌+◌, ◌<◌, ◌≤◌, List, [], ◌∷◌, ◌++◌, length, map, set, take, true, false, refl, sym, ◌∙◌, ap, subst, arith, inl, inr, Some, None, Vec, Global}
 use Rattle.std.specs.Prelude.{◌⊎◌, slice_get, nat_lt, if◌then◌else◌}
-use Rattle.std.proofs.lemmas.List.{length-set, get_or-set_same, length-map}
+use Rattle.std.proofs.lemmas.List.{length-set, get_or-set_same}
 use Rattle.std.proofs.lemmas.Bool.{both_ways, and_parts, cases_eq}
 use Rattle.std.proofs.lemmas.Bool.Decides.{nat_tests}
 use Rattle.dby_types.specs.declared.answer.Answer.TheVariants.{Done}
 use Rattle.dby_types.specs.declared.definition.ColumnDef.{ColumnDef}
-use Rattle.dby_types.specs.declared.definition.TableDef.{TableDef}
 use Rattle.dby_types.specs.declared.number.RowId.{RowId}
 use Rattle.dby_types.specs.declared.value.Value.{Value}
 use Rattle.store_api.specs.declared.slot.Item.TheVariants.{Changed}
 use Rattle.store_api.specs.Catalog.{columns_of_tables, columns_of_columns}
 use Rattle.store_api.specs.Effects.{with_slot, slot_of}
-use Rattle.store_api.specs.View.{View, Content, live, changes_in}
+use Rattle.store_api.specs.View.{View, Content, live}
 use Rattle.table_model.specs.Fitting.{fits_columns}
-use Rattle.table_model.specs.Tables.{Tables, Made, Each, put, laid_over, no_tables}
-use Rattle.journal_model.specs.Catalog.{IsOf, HasColumns, Defines, NoTable, table_row, column_row, column_rows}
+use Rattle.table_model.specs.Tables.{Tables, put, laid_over, no_tables}
+use Rattle.journal_model.specs.Catalog.{HasColumns, Defines, NoTable, table_row, column_row, column_rows}
 use Rattle.journal_model.specs.Legal.{CommitsFit, Wrote, written, wrote, row_put}
 use Rattle.journal_model.specs.Meaning.{is_long}
 use Rattle.journal_model.proofs.BaseLemmas.{at_other}
-use Rattle.session_model.specs.Legal.{AnswerMeets, IsFree, IsMeant, Owes, puts_of, view as view_at}
+use Rattle.session_model.specs.Legal.{AnswerMeets, IsMeant, Owes, puts_of, view as view_at}
 use Rattle.session_model.specs.Orders.{Passes, PassesOrder, order_of}
 use Rattle.session_model.specs.Places.{Relies, WritesCatalog, locks_of}
-use Rattle.session_model.specs.World.{World, Txn, opening, seen, ends_if, said, set_conn, after_answered, pin_of, apply}
+use Rattle.session_model.specs.World.{Txn, opening, seen, ends_if, said, set_conn, after_answered, pin_of, apply}
 use Rattle.session_model.proofs.BaseLemmas.{count_is, opened_is}
-use Rattle.session_model.proofs.FitLemmas.{SameCatalog, defines_same, other_way, fitting_head}
+use Rattle.session_model.proofs.FitLemmas.{defines_same, fitting_head}
 use Rattle.session_model.proofs.PlaceLemmas.{here, elsewhere, put_here, put_elsewhere}
 use Rattle.session_engine.specs.declared.session.Make.{Make}
 use Rattle.session_engine.specs.declared.session.Phase.{Phase}
 use Rattle.session_engine.specs.declared.session.Plan.TheVariants as plan
 use Rattle.session_engine.specs.declared.session.Session.{Session}
 use Rattle.session_engine.specs.Creating.{told_done}
-use Rattle.session_engine.specs.Dictionary.{Named, Among, IsDictionary, IsAbsent, named_of, definition_of}
+use Rattle.session_engine.specs.Dictionary.{Named, IsDictionary, IsAbsent, named_of, definition_of}
 use Rattle.session_engine.specs.Filling.{Moves, inserted}
 use Rattle.session_engine.specs.Follows.{Follows}
 use Rattle.session_engine.specs.Listed.{IsUnlisted, Lists}
 use Rattle.session_engine.specs.Listing.{counted, is_listed}
-use Rattle.session_engine.specs.State.{State, Holds, Bears, HasFirst, IsFounded, Makes, Mirrors, Stands, world_of, txn_of}
+use Rattle.session_engine.specs.State.{State, Holds, HasFirst, Mirrors, world_of, txn_of}
 use Rattle.session_engine.proofs.CatalogLemmas.{OneColumnMore, OneTableMore, column_back, table_back, column_put, table_put, among-each, same_or_not}
 use Rattle.session_engine.proofs.ContainerLemmas.{sole_view}
 use Rattle.session_engine.proofs.ListingLemmas.{lists_own, sole_changes}
 use Rattle.session_engine.proofs.MakeLemmas.{Making, make_at, make_roomy, make_small}
 use Rattle.session_engine.proofs.OpeningLemmas.{none_defined}
-use Rattle.session_engine.proofs.PutLemmas.{puts_row, put_made, put_txn}
+use Rattle.session_engine.proofs.PutLemmas.{puts_row, put_made}
 use Rattle.session_engine.proofs.SmallLemmas.{column_fits, table_fits, small_column}
 use Rattle.session_engine.proofs.StableLemmas.{writer_reads}
 use Rattle.session_engine.proofs.StepLemmas.{own_session}

@@ -1,8 +1,7 @@
 -- The dictionary beside the catalog, where a step leaves the catalog's rows as they are.
-use Rattle.std.proofs.Common.{◌≡◌, ◌≢◌, ℕ, ◌<◌, ◌≤◌, List, [], ◌∷◌, refl, sym, ◌∙◌, ap, subst, arith, inl, inr}
+use Rattle.std.proofs.Common.{◌≡◌, ◌≢◌, ℕ, ◌≤◌, List, [], refl, sym, ◌∙◌, ap, subst, arith, inl, inr}
 use Rattle.std.specs.Prelude.{◌⊎◌}
 use Rattle.std.proofs.lemmas.Bool.{cases_eq}
-use Rattle.dby_types.specs.declared.number.RowId.{RowId}
 use Rattle.store_api.specs.View.{View, Content}
 use Rattle.table_model.specs.Tables.{Tables}
 use Rattle.session_model.specs.World.{World, Txn}

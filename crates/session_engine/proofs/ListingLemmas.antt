@@ -1,17 +1,16 @@
 -- What a row that is put, or taken back, makes of the dictionary.
-use Rattle.std.proofs.Common.{◌≡◌, ◌≢◌, ℕ, zero, suc, ◌+◌, ◌-◌, ◌<◌, List, [], ◌∷◌, ◌++◌, length, take, Bool, true, false, refl, sym, ◌∙◌, ap, subst, arith, inl, inr, Some, None, length-append}
-use Rattle.std.specs.Prelude.{◌⊎◌, ◌==◌, if◌then◌else◌}
+use Rattle.std.proofs.Common.{◌≡◌, ◌≢◌, ℕ, ◌-◌, List, [], ◌∷◌, ◌++◌, length, take, true, false, refl, sym, ◌∙◌, ap, subst, arith, inl, inr, Some, None, length-append}
+use Rattle.std.specs.Prelude.{◌==◌, if◌then◌else◌}
 use Rattle.std.proofs.lemmas.Bool.{both_ways, cases_eq}
 use Rattle.std.proofs.lemmas.Bool.Decides.{nat_tests}
 use Rattle.dby_types.specs.declared.number.RowId.{RowId}
-use Rattle.dby_types.specs.declared.value.Value.{Value}
 use Rattle.store_api.specs.View.{View}
-use Rattle.table_model.specs.Tables.{Tables, Made, Each, put, laid_over}
+use Rattle.table_model.specs.Tables.{Tables, Made, put, laid_over}
 use Rattle.journal_model.specs.Catalog.{table_row}
 use Rattle.session_model.specs.World.{World, Txn}
 use Rattle.session_model.specs.Places.{Locks, Shared, Written, is_catalog}
 use Rattle.session_model.proofs.PlaceLemmas.{here, elsewhere, put_here, put_elsewhere}
-use Rattle.session_engine.specs.Dictionary.{Named, Among}
+use Rattle.session_engine.specs.Dictionary.{Named}
 use Rattle.session_engine.specs.Listed.{Cataloged, ListsTable, ListsColumn, Lists, left_named}
 use Rattle.session_engine.proofs.CatalogLemmas.{OneColumnMore, OneTableMore, column_taken, table_taken, each-among, table_row-number}
 use Rattle.session_engine.proofs.ListedLemmas.{kept_catalog}

@@ -15,9 +15,9 @@ use Rattle.store_api.specs.declared.slot.Item.TheVariants.{Changed, Created, Dis
 use Rattle.store_api.specs.Catalog.{columns_of_tables, columns_of_columns}
 use Rattle.store_api.specs.Effects.{with_item}
 use Rattle.store_api.specs.View.{View, Content, IsSound, at_number, live, changes_in}
-use Rattle.table_model.specs.Tables.{Tables, Made, Each, laid_over, rest_of}
+use Rattle.table_model.specs.Tables.{Tables, Made, Each, laid_over}
 use Rattle.table_model.proofs.TablesLemmas.{each_map}
-use Rattle.journal_model.specs.Catalog.{Defines, table_row}
+use Rattle.journal_model.specs.Catalog.{table_row}
 use Rattle.journal_model.specs.Legal.{written, wrote}
 use Rattle.journal_model.specs.declared.journal.Refusal.{Refusal}
 use Rattle.journal_model.specs.declared.journal.Refusal.TheVariants.{Sql, Memory}

@@ -1,11 +1,10 @@
 -- A table that a text spells is small: its names have at most 128 bytes and its columns are INTEGER, so that its catalog rows fit, and its own rows.
-use Rattle.std.proofs.Common.{◌≡◌, ℕ, zero, suc, ◌+◌, ◌*◌, ◌<◌, ◌≤◌, ◌^◌, List, [], ◌∷◌, ◌++◌, length, map, Bool, true, false, refl, sym, ◌∙◌, ap, subst, arith, inl, inr, Option, Some, None}
+use Rattle.std.proofs.Common.{◌≡◌, ℕ, zero, suc, ◌+◌, ◌*◌, ◌<◌, ◌≤◌, ◌^◌, List, [], ◌∷◌, length, map, Bool, true, false, refl, sym, ap, subst, arith, Option, Some, None}
 use Rattle.std.specs.Prelude.{⊤, ◌&&◌, ◌||◌, ◌==◌, codes, nat_le, slice_get, slice_range, if◌then◌else◌}
-use Rattle.std.proofs.lemmas.Bool.{both_ways, cases_Bool, and_from, and_parts}
+use Rattle.std.proofs.lemmas.Bool.{and_parts}
 use Rattle.std.proofs.lemmas.Bool.Decides.{nat_tests}
 use Rattle.std.proofs.lemmas.List.{length-map}
 use Rattle.dby_types.specs.declared.definition.ColumnDef.{ColumnDef}
-use Rattle.dby_types.specs.declared.value.Ty.{Ty}
 use Rattle.dby_types.specs.declared.value.Ty.TheVariants as ty
 use Rattle.dby_types.specs.declared.value.Value.{Value}
 use Rattle.table_model.specs.Fitting.{fits_columns}
@@ -18,7 +17,7 @@ use Rattle.sql_lexer.specs.Kinds.{kind_of, name_of, number_of, number_from, quot
 use Rattle.sql_lexer.specs.Bytes.{is_letter, is_digit, folded}
 use Rattle.sql_lexer.specs.Reading.{reading_after, is_open}
 use Rattle.sql_lexer.specs.Reserved.{is_reserved_word}
-use Rattle.sql_lexer.specs.Tokens.{tokens_of, tokens_from, token_where, token_of, token_begin, ends_token}
+use Rattle.sql_lexer.specs.Tokens.{tokens_of, tokens_from, token_where, token_begin, ends_token}
 use Rattle.sql_lexer.specs.declared.reading.Reading.{Reading}
 use Rattle.sql_lexer.specs.declared.reading.Reading.TheVariants.{Between}
 use Rattle.sql_lexer.specs.declared.token.Sign.{Sign as ASign}
@@ -36,7 +35,6 @@ use Rattle.sql_forms.specs.Tuples.{tuples_in}
 use Rattle.sql_forms.specs.Words.{name_in, is_word, is_star, is_comma, is_close}
 use Rattle.sql_commands.specs.declared.command.Command.{Command}
 use Rattle.sql_commands.specs.Commands.{command_of}
-use Rattle.session_model.specs.declared.order.Order.{Order}
 use Rattle.session_model.specs.declared.order.Order.TheVariants as ordered
 use Rattle.session_model.specs.Orders.{order_of, order_from}
 

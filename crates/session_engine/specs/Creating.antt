@@ -1,5 +1,5 @@
 -- How a table is made: its container, described to the store.
-use Rattle.std.specs.Prelude.{◌≡◌, ◌≢◌, ◌<◌, ◌≤◌, ◌+◌, ◌^◌, ◌⊎◌, ℕ, [], ◌∷◌, Option, Some, None, true, false}
+use Rattle.std.specs.Prelude.{◌≡◌, ◌≢◌, ◌<◌, ◌≤◌, ◌+◌, ◌^◌, ◌⊎◌, ℕ, [], Option, Some, None, true, false}
 use Rattle.device.specs.Counts.{Rises}
 use Rattle.dby_types.specs.declared.answer.Answer.TheVariants.{Done}
 use Rattle.dby_types.specs.declared.definition.TableDef.{TableDef}

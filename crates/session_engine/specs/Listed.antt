@@ -1,11 +1,11 @@
 -- The dictionary that the engine keeps, beside the catalog's rows: no step tears them, since a table's own row is put last and taken back first.
-use Rattle.std.specs.Prelude.{◌≡◌, ◌≢◌, ◌⊎◌, ℕ, ◌<◌, ◌-◌, List, [], ◌∷◌, ◌++◌, length, take, Option, Some, None, Bool, true, false, ◌==◌, if◌then◌else◌}
+use Rattle.std.specs.Prelude.{◌≡◌, ◌≢◌, ◌⊎◌, ℕ, ◌<◌, ◌-◌, List, [], ◌∷◌, ◌++◌, length, take, Some, None, false, ◌==◌, if◌then◌else◌}
 use Rattle.dby_types.specs.declared.definition.ColumnDef.{ColumnDef}
 use Rattle.dby_types.specs.declared.number.RowId.{RowId}
 use Rattle.dby_types.specs.declared.value.Value.{Value}
 use Rattle.store_api.specs.Catalog.{columns_of_tables, columns_of_columns}
 use Rattle.store_api.specs.View.{View}
-use Rattle.table_model.specs.Tables.{Tables, Made, Each}
+use Rattle.table_model.specs.Tables.{Made, Each}
 use Rattle.journal_model.specs.Catalog.{IsOf, table_row, column_row}
 use Rattle.session_model.specs.Places.{is_catalog}
 use Rattle.session_model.specs.World.{World}

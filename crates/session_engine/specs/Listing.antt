@@ -4,7 +4,6 @@ use Rattle.std.specs.declared.alloc.AllocError.{AllocError}
 use Rattle.dby_types.specs.declared.definition.ColumnDef.{ColumnDef}
 use Rattle.dby_types.specs.declared.value.Value.{Value}
 use Rattle.journal_model.specs.Catalog.{table_row, column_row}
-use Rattle.session_engine.specs.declared.dictionary.Defined.{Defined}
 use Rattle.session_engine.specs.declared.listing.Listing.{Listing}
 use Rattle.session_engine.specs.declared.session.Make.{Make}
 use Rattle.session_engine.specs.declared.session.Plan.TheVariants.{Create}

@@ -17,7 +17,7 @@ use Rattle.session_engine.specs.declared.step.Event.TheVariants.{Begin, Change, 
 use Rattle.session_engine.specs.declared.step.Stop.{Stop}
 use Rattle.session_engine.specs.declared.step.Stop.TheVariants.{Fault, Damage}
 use Rattle.session_engine.specs.declared.step.Step.{Step}
-use Rattle.session_engine.specs.declared.step.Step.TheVariants.{Went, Blocked, Answered, Ended, Stopped, Memory}
+use Rattle.session_engine.specs.declared.step.Step.TheVariants.{Went, Answered, Ended, Stopped}
 
 -- a statement's answer or refusal
 abbrev pub is_told : Entry → Bool

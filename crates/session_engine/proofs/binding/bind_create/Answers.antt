@@ -1,4 +1,4 @@
-use Rattle.std.proofs.Common.{◌≡◌, refl, sym, subst, inl}
+use Rattle.std.proofs.Common.{refl, sym, subst, inl}
 use Rattle.session_engine.specs.declared.session.Plan.{Plan}
 use Rattle.session_engine.specs.Binding.{BindsCreate}
 use Rattle.session_engine.proofs.binding.bind_create.Goals as goal

@@ -1,12 +1,10 @@
-use Rattle.std.proofs.Common.{◌≡◌, ◌+◌, ◌-◌, ◌<◌, ◌++◌, [], ◌∷◌, List, length, length-append, refl, sym, ◌∙◌, ap, subst, arith, Some, None, false}
+use Rattle.std.proofs.Common.{◌≡◌, ◌+◌, ◌-◌, ◌<◌, ◌++◌, [], ◌∷◌, length, length-append, refl, sym, ◌∙◌, ap, subst, arith, Some, None, false}
 use Rattle.std.specs.Prelude.{Result, Ok, IfOk}
 use Rattle.std.specs.declared.alloc.AllocError.{AllocError}
-use Rattle.dby_types.specs.declared.value.Value.{Value}
 use Rattle.journal_model.specs.Catalog.{table_row}
 use Rattle.store_api.specs.Effects.{with_slot, slot_of}
 use Rattle.table_model.specs.Fitting.{fits_columns}
 use Rattle.session_engine.specs.declared.listing.Listing.{Listing}
-use Rattle.session_engine.specs.Dictionary.{IsAbsent}
 use Rattle.session_engine.specs.Engine.{state}
 use Rattle.session_engine.specs.Filling.{inserted}
 use Rattle.session_engine.specs.Listing.{IsTableToPut, IsListed}
