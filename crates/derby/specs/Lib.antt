@@ -1,3 +1,4 @@
-pub mod Words
-pub mod Reading
+pub mod Inputs
+pub mod Running
+pub mod Text
 pub mod Step

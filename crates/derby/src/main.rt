@@ -1,14 +1,12 @@
-//! The program: words, one script, its run, the printed text, the status.
+//! The program: words, a plan, scripts, their run, the printed text, the status.
 #![tactic(auto)]
 
 mod ending;
+mod inputs;
 mod printing;
-mod reading;
 mod real;
+mod running;
 mod step;
-#[cfg(test)]
-mod tests;
-mod words;
 
 use real::{FileHost, StreamSink};
 use std::process::ExitCode;

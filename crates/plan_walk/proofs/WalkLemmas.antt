@@ -1,14 +1,17 @@
 -- Steps and lines, put together one at a time.
 use Rattle.std.proofs.Common.{◌≡◌, ℕ, zero, suc, ◌+◌, ◌<◌, ◌≤◌, List, [], ◌∷◌, ◌++◌, length, take, drop, get_or, Bool, true, false, refl, sym, ◌∙◌, ap, subst, arith, Option, Some, None}
+use Rattle.std.specs.Prelude.{IfSome}
+use Rattle.store_api.specs.View.{View}
 use Rattle.journal_model.specs.declared.journal.Entry.{Entry}
-use Rattle.session_engine.specs.Stepped.{Grows, HasEnded}
+use Rattle.session_engine.specs.Stepped.{Grows, HasEnded, HasStopped as IsStopped, stop_after}
 use Rattle.session_engine.specs.declared.step.Event.{Event}
+use Rattle.session_engine.specs.declared.step.Stop.{Stop}
 use Rattle.session_engine.specs.declared.step.Step.{Step}
 use Rattle.session_engine.specs.declared.step.Step.TheVariants.{Went, Blocked, Answered, Stopped, Ended, Memory as NoMemory}
 use Rattle.step_plan.specs.declared.plan.StepLine.{StepLine}
 use Rattle.plan_walk.specs.declared.walk.Walked.{Walked}
 use Rattle.plan_walk.specs.declared.walk.Walked.TheVariants.{Whole, Stopped as HasStopped, Memory}
-use Rattle.plan_walk.specs.Walk.{IsStep, Goes, IsLine, EndsLine, Walks, Halts, IsWalk, halt_of, pauses}
+use Rattle.plan_walk.specs.Walk.{IsStep, Goes, IsLine, EndsLine, Walks, Halts, IsWalk, HasCause, halt_of, pauses, stop_behind, stop_left}
 
 -- a step that doesn't pause went
 goes_more : (scripts : List (List ℕ)) (c k : ℕ) (old mid new : List Entry) (answer : Step) → Goes scripts c k old mid → IsStep scripts c mid new answer → pauses answer ≡ false → Goes scripts c (suc k) old new
@@ -97,3 +100,41 @@ pub ends_with : (scripts own : List (List ℕ)) (lines : List StepLine) (i : ℕ
     → Walks scripts (take i lines) old mid → halt_of last ≡ Some how → IsWalk scripts lines old new how
 ends_with scripts own lines i d line old mid new last how is at same lt walks halts =
     walk_ends scripts lines i d old mid new last how lt walks (subst (λ (l : StepLine). IsLine scripts l mid new last) at (subst (λ (ss : List (List ℕ)). IsLine ss line mid new last) same is)) halts
+
+-- a step that doesn't pause leaves the engine as it was in what it has stopped for
+pub goes_unstopped : (answer : Step) (old : Option Stop) → pauses answer ≡ false → stop_after answer old ≡ old
+goes_unstopped (Went event) old is = refl
+goes_unstopped (Blocked why) old is = refl
+goes_unstopped Answered old is = refl
+goes_unstopped Ended old is = refl
+goes_unstopped (Stopped s) old is = absurd (let x : true ≡ false = is in cc)
+goes_unstopped NoMemory old is = refl
+
+-- and so does a line with which the walk goes on
+pub line_unstopped : (last : Option Step) (old : Option Stop) → halt_of last ≡ None → stop_behind last old ≡ old
+line_unstopped None old is = refl
+line_unstopped (Some (Went event)) old is = refl
+line_unstopped (Some (Blocked why)) old is = refl
+line_unstopped (Some Answered) old is = refl
+line_unstopped (Some Ended) old is = refl
+line_unstopped (Some (Stopped s)) old is = let x : Some (HasStopped s) ≡ None = is in cc
+line_unstopped (Some NoMemory) old is = refl
+
+-- the walk has stopped for what its last line has
+pub stops_as : (last : Option Step) (how : Walked) (old : Option Stop) → halt_of last ≡ Some how → stop_behind last old ≡ stop_left how old
+stops_as None how old is = let x : None ≡ Some how = is in cc
+stops_as (Some (Went event)) how old is = let x : None ≡ Some how = is in cc
+stops_as (Some (Blocked why)) how old is = let x : None ≡ Some how = is in cc
+stops_as (Some Answered) how old is = let x : None ≡ Some how = is in cc
+stops_as (Some Ended) how old is = let x : None ≡ Some how = is in cc
+stops_as (Some (Stopped s)) how old is = subst (λ (w : Walked). Some s ≡ stop_left w old) (let x : Some (HasStopped s) ≡ Some how = is in let y : HasStopped s ≡ how = cc in y) refl
+stops_as (Some NoMemory) how old is = subst (λ (w : Walked). old ≡ stop_left w old) (let x : Some Memory ≡ Some how = is in let y : Memory ≡ how = cc in y) refl
+
+pub caused_as : (last : Option Step) (how : Walked) (v : View) → halt_of last ≡ Some how → IfSome last (λ answer. IsStopped answer v) → HasCause how v
+caused_as None how v is shown = let x : None ≡ Some how = is in cc
+caused_as (Some (Went event)) how v is shown = let x : None ≡ Some how = is in cc
+caused_as (Some (Blocked why)) how v is shown = let x : None ≡ Some how = is in cc
+caused_as (Some Answered) how v is shown = let x : None ≡ Some how = is in cc
+caused_as (Some Ended) how v is shown = let x : None ≡ Some how = is in cc
+caused_as (Some (Stopped s)) how v is shown = subst (λ (w : Walked). HasCause w v) (let x : Some (HasStopped s) ≡ Some how = is in let y : HasStopped s ≡ how = cc in y) shown
+caused_as (Some NoMemory) how v is shown = subst (λ (w : Walked). HasCause w v) (let x : Some Memory ≡ Some how = is in let y : Memory ≡ how = cc in y) tt

@@ -1,8 +1,10 @@
 -- A walk by a plan: each step begins with the journal that the one before left.
 use Rattle.std.specs.Prelude.{◌≡◌, ◌≤◌, ◌<◌, ◌++◌, ℕ, zero, suc, Bool, true, false, List, [], ◌∷◌, Option, Some, None}
+use Rattle.store_api.specs.View.{View}
 use Rattle.journal_model.specs.declared.journal.Entry.{Entry}
-use Rattle.session_engine.specs.Stepped.{Grows, HasEnded}
+use Rattle.session_engine.specs.Stepped.{Grows, HasEnded, Shows, stop_after}
 use Rattle.session_engine.specs.declared.step.Event.{Event}
+use Rattle.session_engine.specs.declared.step.Stop.{Stop}
 use Rattle.session_engine.specs.declared.step.Step.{Step}
 use Rattle.session_engine.specs.declared.step.Step.TheVariants.{Went, Stopped, Ended, Memory as NoMemory}
 use Rattle.step_plan.specs.declared.plan.StepLine.{StepLine}
@@ -63,3 +65,17 @@ pub record Halts (scripts : List (List ℕ)) (lines : List StepLine) (old new : 
 abbrev pub IsWalk : List (List ℕ) → List StepLine → List Entry → List Entry → Walked → Type 0
 IsWalk scripts lines old new Whole = Walks scripts lines old new
 IsWalk scripts lines old new how = Halts scripts lines old new how
+
+-- what the engine has stopped for, behind a line and behind a walk
+abbrev pub stop_behind : Option Step → Option Stop → Option Stop
+stop_behind None old = old
+stop_behind (Some answer) old = stop_after answer old
+
+abbrev pub stop_left : Walked → Option Stop → Option Stop
+stop_left (HasStopped stop) old = Some stop
+stop_left _ old = old
+
+-- THE CAUSE of a walk's end: the store keeps the failure that is told, and want of memory is free
+abbrev pub HasCause : Walked → View → Type 0
+HasCause (HasStopped stop) v = Shows stop v
+HasCause _ v = Unit {0}

@@ -1,8 +1,8 @@
 //! Lines are walked, one after another.
 
-ghost use Rattle.std.specs.Prelude.{◌≡◌, ◌≤◌, ◌<◌, ◌^◌, length};
-ghost use Rattle.session_engine.specs.Stepped.{stop_after};
-ghost use Rattle.plan_walk.specs.Walk.{IsLine, IsStep, IsWalk, halt_of, pauses};
+ghost use Rattle.std.specs.Prelude.{◌≡◌, ◌≤◌, ◌<◌, ◌^◌, IfSome, None, length};
+ghost use Rattle.session_engine.specs.Stepped.{HasStopped, stop_after};
+ghost use Rattle.plan_walk.specs.Walk.{HasCause, IsLine, IsStep, IsWalk, halt_of, pauses, stop_behind, stop_left};
 
 use dby_types::number::ConnNo;
 use session_engine::engine::Engine;
@@ -35,6 +35,7 @@ fn make<S: RowStore + Drop>(engine: &mut Engine<S>, connection: usize) -> Step
     ensures same { engine.new.0 ≡ engine.old.0 }
     ensures step { IsStep engine.old.0 connection engine.old.1 engine.new.1 result }
     ensures stops { engine.new.4 ≡ stop_after result engine.old.4 }
+    ensures cause { engine.old.4 ≡ None → HasStopped result (S.view engine.new.3) }
 {
     if connection == 0 {
         engine.daemon()
@@ -49,6 +50,8 @@ fn walk_line<S: RowStore + Drop>(engine: &mut Engine<S>, line: StepLine) -> Opti
     requires small { length engine.old.0 < 2 ^ 32 }
     ensures same { engine.new.0 ≡ engine.old.0 }
     ensures line { IsLine engine.old.0 line engine.old.1 engine.new.1 result }
+    ensures stops { engine.new.4 ≡ stop_behind result engine.old.4 }
+    ensures cause { engine.old.4 ≡ None → IfSome result (λ answer. HasStopped answer (S.view engine.new.3)) }
 {
     for _ in 0..line.steps {
         let step = make(engine, line.connection);
@@ -76,6 +79,8 @@ pub fn walk<S: RowStore + Drop>(engine: &mut Engine<S>, plan: &Plan) -> Walked
     requires small { length engine.old.0 < 2 ^ 32 }
     ensures same { engine.new.0 ≡ engine.old.0 }
     ensures walk { IsWalk engine.old.0 plan.now.lines engine.old.1 engine.new.1 result }
+    ensures stops { engine.new.4 ≡ stop_left result engine.old.4 }
+    ensures cause { engine.old.4 ≡ None → HasCause result (S.view engine.new.3) }
 {
     for line in plan.lines() {
         let last = walk_line(engine, *line);

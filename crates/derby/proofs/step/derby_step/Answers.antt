@@ -1,29 +1,33 @@
-use Rattle.std.proofs.Common.{refl, subst, ◌∙◌, ◌++◌}
-use Rattle.std.specs.Prelude.{IfSome, string_bytes}
-use Rattle.derby.specs.Step.{ReadsAs, Tells, journal_text, last_line}
-use Rattle.derby.proofs.StepLemmas.{script_word, has-cause, opened-if, whole-if, journal-legal}
+use Rattle.std.proofs.Common.{◌≡◌, ◌++◌, ℕ, List, [], None, length, map, sym, ap, subst}
+use Rattle.std.specs.Prelude.{string_bytes}
+use Rattle.std.proofs.lemmas.List.{length-map}
+use Rattle.device.specs.Streams.{SourceSeen}
+use Rattle.run_sources.specs.Files.{Opens}
+use Rattle.derby.specs.Step.{Ends, failure_by, plan_in, scripts_in}
+use Rattle.derby.specs.Text.{Tells, journal_text, last_line}
+use Rattle.derby.proofs.StepLemmas.{caused, opened_if}
 use Rattle.derby.proofs.step.derby_step.Goals as goal
-
-pub returns-clause-legal : goal.returns-clause-legal
-returns-clause-legal g c =
-    let form = c.if-not-is_form.ensures.0 refl in
-    let name = c.as_str-name.ensures.value ∙ script_word string_bytes c.args.words.now c.index-words-3.result form c.index-words-3.is in
-    let read = c.read_script-sources in
-    let told = subst (λ n. IfSome ((g.H.Host.seen c.args.host.now).scripts n) (λ bytes. ReadsAs bytes read.result.read)) name read.ensures.told in
-    journal-legal read.result.read c.run_read-ending.result.ending c.run_read-ending.result.journal _ c.run_read-ending.ensures read.ensures.short told
 
 pub returns-clause-owes : goal.returns-clause-owes
 returns-clause-owes g c =
-    let form = c.if-not-is_form.ensures.0 refl in
-    let name = c.as_str-name.ensures.value ∙ script_word string_bytes c.args.words.now c.index-words-3.result form c.index-words-3.is in
-    let read = c.read_script-sources in
-    let went = c.run_read-ending.result in
-    let told = subst (λ n. IfSome ((g.H.Host.seen c.args.host.now).scripts n) (λ bytes. ReadsAs bytes read.result.read)) name read.ensures.told in
+    let words = map string_bytes c.args.words.now in
+    let went = c.go-ending.result in
+    let old = g.H.Host.seen c.args.host.now in
+    let new = g.H.Host.seen c.go-ending.new.host in
+    let names = map string_bytes c.in-Some.named.scripts.now in
+    let plan_is : c.in-Some.named.plan.now ≡ plan_in words = sym (ap plan_in c.in-Some.ensures.1) in
+    let names_are : names ≡ scripts_in words = sym (ap scripts_in c.in-Some.ensures.1) in
+    let ends = subst (λ (ns : List (List ℕ)). Ends went.ending old.scripts (plan_in words) ns went.journal) names_are
+        (subst (λ (p : List ℕ). Ends went.ending old.scripts p names went.journal) plan_is c.go-ending.ensures.ends) in
+    let from_none = subst (λ (b : List SourceSeen). Opens (failure_by went.ending) old new b (map g.H.Script.Source.seen c.go-ending.new.sources.items)) (ap (map g.H.Script.Source.seen) c.new-sources.ensures.items) c.go-ending.ensures.opens in
+    let opens = subst (λ (a : List SourceSeen). Opens (failure_by went.ending) old new [] a) (ap (map g.H.Script.Source.seen) (sym c.from_vec.ensures)) from_none in
+    let printed = g.K.Sink.seen c.print_run-status-2.new.sink in
+    let counted = subst (λ (n : ℕ). Tells went.ending c.print_run-status-2.result (g.K.Sink.seen c.args.sink.now) printed (journal_text n went.journal ++ last_line went.ending c.in-Some.named.plan.now names))
+        (sym (length-map c.in-Some.named.scripts.now string_bytes)) c.print_run-status-2.ensures in
+    let named = subst (λ (p : List ℕ). Tells went.ending c.print_run-status-2.result (g.K.Sink.seen c.args.sink.now) printed (journal_text (length names) went.journal ++ last_line went.ending p names)) plan_is counted in
     record {
       ending = went.ending;
-      cause = has-cause read.result.read went.ending went.journal _ _ _ _ _ form c.run_read-ending.ensures read.ensures.failed read.ensures.well told;
-      text = subst (λ n. Tells went.ending c.print_run-status-2.result (g.K.Sink.seen c.args.sink.now) (g.K.Sink.seen c.print_run-status-2.new.sink) (journal_text went.journal ++ last_line went.ending n))
-          (c.as_bytes.ensures.value ∙ name) c.print_run-status-2.ensures;
-      opened = opened-if read.result.read went.ending went.journal c.run_read-ending.ensures;
-      whole = whole-if read.result.read went.ending went.journal _ c.run_read-ending.ensures told;
+      cause = caused went.ending words old new (map g.H.Script.Source.seen c.from_vec.result) went.journal c.in-Some.ensures.0 opens ends;
+      text = subst (λ (ns : List (List ℕ)). Tells went.ending c.print_run-status-2.result (g.K.Sink.seen c.args.sink.now) printed (journal_text (length ns) went.journal ++ last_line went.ending (plan_in words) ns)) names_are named;
+      opened = opened_if went.ending old.scripts (plan_in words) (scripts_in words) went.journal ends;
     }

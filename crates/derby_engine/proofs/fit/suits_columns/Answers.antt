@@ -1,6 +1,0 @@
-use Rattle.std.proofs.Common.{sym}
-use Rattle.derby_engine.proofs.FitLemmas.{suits-lengths}
-use Rattle.derby_engine.proofs.fit.suits_columns.Goals as goal
-
-pub returns-then-columns-row : goal.returns-then-columns-row
-returns-then-columns-row c = sym (suits-lengths c.args.columns.now c.args.row.now c.if-columns-row.true)

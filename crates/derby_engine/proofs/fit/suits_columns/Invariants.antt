@@ -1,6 +1,0 @@
-use Rattle.std.proofs.Common.{◌≡◌, drop}
-use Rattle.journal_model.specs.Catalog.{suits}
-use Rattle.derby_engine.proofs.fit.suits_columns.Given as goal
-
-abbrev pub invariant-loop-i : goal.invariant-loop-i
-invariant-loop-i l = suits (drop l.i l.columns) (drop l.i l.row) ≡ suits l.columns l.row

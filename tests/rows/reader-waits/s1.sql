@@ -1,0 +1,1 @@
+CREATE TABLE T(A INT); autocommit off; INSERT INTO T VALUES (1); commit;

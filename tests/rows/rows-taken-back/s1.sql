@@ -1,0 +1,1 @@
+CREATE TABLE T(A INT); INSERT INTO T VALUES (1); autocommit off; INSERT INTO T VALUES (2), (3); rollback;

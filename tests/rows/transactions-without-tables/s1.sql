@@ -1,0 +1,1 @@
+autocommit off; SELECT * FROM T; commit; SET ISOLATION RR; INSERT INTO T VALUES (1); rollback; NONE
