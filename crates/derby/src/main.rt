@@ -7,6 +7,8 @@ mod printing;
 mod real;
 mod running;
 mod step;
+#[cfg(test)]
+mod tests;
 
 use real::{FileHost, StreamSink};
 use std::process::ExitCode;

@@ -1,4 +1,6 @@
 //! A walk of an engine by a plan: line by line, each so many steps of a connection.
 #![tactic(auto)]
 
+#[cfg(test)]
+mod tests;
 pub mod walk;

@@ -1,0 +1,9 @@
+//! Texts read by hand: the trees and the places of faults that the grammar gives them.
+//!
+//! Tests alone.
+#![tactic(auto)]
+
+#[cfg(test)]
+mod expressions;
+#[cfg(test)]
+mod walks;
