@@ -74,13 +74,7 @@ fn put_input<K: Sink>(
 }
 
 /// Prints the last line of a run.
-fn put_last<K: Sink>(
-    out: &mut Outbox,
-    sink: &mut K,
-    ending: Ending,
-    plan: &str,
-    scripts: &[String],
-)
+fn put_last<K: Sink>(out: &mut Outbox, sink: &mut K, ending: Ending, plan: &str, scripts: &[String])
     ensures { Prints (K.seen sink.old) out.old (K.seen sink.new) out.new (last_line ending plan.now (map string_bytes scripts.now)) }
 {
     match ending {

@@ -19,20 +19,14 @@ const PRINTED: &[u8] =
     b"## connection 1\nDONE\nERROR 42X05\nCOMMITTED\nDONE\nERROR 42X05\nROLLED BACK\nERROR 42X01\n## connection 2\nERROR PRL00\nERROR 42X05\nNOT ANSWERED\n";
 
 /// A script that makes a table and commits, and one that reads it.
-const MAKES: &[u8] =
-    b"CREATE TABLE T(A INT); autocommit off; INSERT INTO T VALUES (1); commit;";
+const MAKES: &[u8] = b"CREATE TABLE T(A INT); autocommit off; INSERT INTO T VALUES (1); commit;";
 
 const READS: &[u8] = b"SELECT * FROM T;";
 
 const WORDS: [&str; 5] = ["step", "demo", "plan", "s1.sql", "s2.sql"];
 
 /// A host with a plan and two scripts.
-fn host_of(
-    alloc: Global,
-    plan: &[u8],
-    first: &[u8],
-    second: &[u8],
-) -> Result<MemHost, AllocError> {
+fn host_of(alloc: Global, plan: &[u8], first: &[u8], second: &[u8]) -> Result<MemHost, AllocError> {
     let mut host = MemHost::new(alloc);
     host.put_script("plan", plan)?;
     host.put_script("s1.sql", first)?;
@@ -58,7 +52,12 @@ fn run(
 #[test]
 fn runs_scripts(rt: HostRuntime) -> Result<(), Fail> {
     let cases: [(&[u8], &[u8], &[u8], &[u8]); 2] = [
-        (b"\n\n", b"-- nothing", b"", b"## connection 1\n## connection 2\n"),
+        (
+            b"\n\n",
+            b"-- nothing",
+            b"",
+            b"## connection 1\n## connection 2\n",
+        ),
         (PLAN, FIRST, SECOND, PRINTED),
     ];
     for (plan, first, second, printed) in cases {
@@ -174,7 +173,10 @@ fn refuses_too_many_scripts(rt: HostRuntime) -> Result<(), Fail> {
         let status = run(rt.alloc(), words.as_slice(), &mut host, &mut sink)?;
         assert_eq!(rt; status, wanted);
         if wanted == 8 {
-            assert_eq!(rt; sink.bytes(), b"derby: 65 connections, limit 64\n".as_slice());
+            assert_eq!(rt;
+                sink.bytes(),
+                b"derby: 65 connections, limit 64\n".as_slice()
+            );
         }
     }
     Ok(())

@@ -18,12 +18,12 @@ returns-clause-owes g c =
     let plan_is : c.in-Some.named.plan.now ≡ plan_in words = sym (ap plan_in c.in-Some.ensures.1) in
     let names_are : names ≡ scripts_in words = sym (ap scripts_in c.in-Some.ensures.1) in
     let ends = subst (λ (ns : List (List ℕ)). Ends went.ending old.scripts (plan_in words) ns went.journal) names_are
-        (subst (λ (p : List ℕ). Ends went.ending old.scripts p names went.journal) plan_is c.go-ending.ensures.ends) in
+    (subst (λ (p : List ℕ). Ends went.ending old.scripts p names went.journal) plan_is c.go-ending.ensures.ends) in
     let from_none = subst (λ (b : List SourceSeen). Opens (failure_by went.ending) old new b (map g.H.Script.Source.seen c.go-ending.new.sources.items)) (ap (map g.H.Script.Source.seen) c.new-sources.ensures.items) c.go-ending.ensures.opens in
     let opens = subst (λ (a : List SourceSeen). Opens (failure_by went.ending) old new [] a) (ap (map g.H.Script.Source.seen) (sym c.from_vec.ensures)) from_none in
     let printed = g.K.Sink.seen c.print_run-status-2.new.sink in
     let counted = subst (λ (n : ℕ). Tells went.ending c.print_run-status-2.result (g.K.Sink.seen c.args.sink.now) printed (journal_text n went.journal ++ last_line went.ending c.in-Some.named.plan.now names))
-        (sym (length-map c.in-Some.named.scripts.now string_bytes)) c.print_run-status-2.ensures in
+    (sym (length-map c.in-Some.named.scripts.now string_bytes)) c.print_run-status-2.ensures in
     let named = subst (λ (p : List ℕ). Tells went.ending c.print_run-status-2.result (g.K.Sink.seen c.args.sink.now) printed (journal_text (length names) went.journal ++ last_line went.ending p names)) plan_is counted in
     record {
       ending = went.ending;
