@@ -1,5 +1,5 @@
 -- Serving the conversions and then the other requests.
-use Rattle.std.proofs.Common.{◌≡◌, Bool, true, false, refl, sym, ◌∙◌, ap, cond, List, [], ◌∷◌, ◌++◌, subst, inl, inr, append_assoc}
+use Rattle.std.proofs.Common.{◌≡◌, Bool, true, false, refl, sym, ◌∙◌, ap, cond, List, [], ◌∷◌, ◌++◌, subst, inl, inr, append_assoc, append-nil}
 use Rattle.std.specs.Prelude.{◌&&◌, ◌||◌, not}
 use Rattle.std.proofs.lemmas.List.Folds.{list_any-append}
 use Rattle.std.proofs.lemmas.Bool.{both_ways, and_from, or_left, or_right}
@@ -17,6 +17,7 @@ use Rattle.lock_modes.proofs.NamesLemmas.{txn_eq, txn_refl, txn_equiv, name_refl
 use Rattle.lock_manager.specs.Owners.{Owners, grants_in, waits_in, victim_in}
 use Rattle.lock_manager.specs.Serve.{is_among, Waiters, Wakes, Served, ServedBoth, without_all}
 use Rattle.lock_manager.proofs.BlockedLemmas.{without_none, serves_append, served_blocked}
+use Rattle.lock_manager.proofs.ServeLemmas.{no_wakes}
 use Rattle.lock_manager.proofs.TableLemmas.{lock_path}
 
 or_none : (a b : Bool) → (a || b) ≡ false → (a ≡ false) × (b ≡ false)
@@ -169,6 +170,22 @@ served_both a b c cs rs cs' rs' given given' given'' waiters x y =
     was_there : (p q : Bool) → (p ≡ false → q ≡ false) → q ≡ true → p ≡ true
     was_there true q gone h = refl
     was_there false q gone h = absurd (both_ways _ (gone refl) h)
+
+-- nothing is granted where each request has somebody in its way
+none_served : (g : Grants) (b rs : List Request) → AllBlocked g b rs → Serves g b rs [] rs
+none_served g b [] k = (refl, refl)
+none_served g b (r ∷ rs) k = inr (rs, refl, k.0, none_served g (b ++ r ∷ []) rs k.1)
+
+pub unserved : (a : Owners) (cs rs given : List Request) → Waiters a (cs ++ rs) → AllBlocked (grants_in a) [] (cs ++ rs) → ServedBoth a a cs rs cs rs given given
+unserved a cs rs given waiters k = record {
+  woken = [];
+  noted = sym (append-nil given);
+  order = none_served (grants_in a) [] (cs ++ rs) k;
+  wakes = no_wakes a;
+  waiters = waiters;
+  conversions_are = refl;
+  requests_are = refl;
+}
 
 -- the other requests still wait after the conversions were served
 pub waiters_second : (a b : Owners) (cs rs cs' given given' : List Request) → Waiters a (cs ++ rs) → Served a b [] cs cs' given given' → Waiters b rs

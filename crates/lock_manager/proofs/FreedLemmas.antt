@@ -15,6 +15,7 @@ use Rattle.lock_modes.specs.Names.{same_name, same_txn, is_row_name}
 use Rattle.lock_modes.specs.Waits.{asks_before, opposes, IsBlocked, AllBlocked}
 use Rattle.lock_modes.proofs.NamesLemmas.{name_eq, name_refl, txn_eq}
 use Rattle.lock_modes.proofs.TablesLemmas.{not_held}
+use Rattle.lock_manager.specs.Asked.{is_asked}
 use Rattle.lock_manager.specs.Freed.{asks, name_of, StillBlocked}
 use Rattle.lock_manager.specs.Owners.{Owners, owner_of, modes_of, grants_in}
 use Rattle.lock_manager.specs.Serve.{is_among, Waiters}
@@ -153,3 +154,12 @@ one_request held os t (r ∷ rs) w =
     ]) s in
     let both = cases (same_txn r.txn t) refl in
     (both.0, both.1)
+
+-- where nobody asks for a name that passes, each request still has somebody in its way
+pub all_still : (p : LockName → Bool) (g : Grants) (b rs : List Request) → ((n : LockName) → p n ≡ true → is_asked n rs ≡ false) → StillBlocked p g b rs → AllBlocked g b rs
+all_still p g b [] none k = tt
+all_still p g b (r ∷ rs) none k = (k.0 (fails (p r.name) refl), all_still p g (b ++ r ∷ []) rs (λ n h. (or_none (same_name r.name n) (is_asked n rs) (none n h)).1) k.1)
+  where
+    fails : (w : Bool) → p r.name ≡ w → p r.name ≡ false
+    fails true h = absurd (both_ways _ (or_none (same_name r.name r.name) (is_asked r.name rs) (none r.name h)).0 (name_refl r.name))
+    fails false h = h

@@ -1,11 +1,14 @@
 pub mod NameLemmas
 pub mod PlacesLemmas
+pub mod AskedLemmas
+pub mod WithoutLemmas
 pub mod ListedLemmas
 pub mod HoldingsLemmas
 pub mod OwnersLemmas
 pub mod FreedLemmas
 pub mod ServeLemmas
 pub mod BlockedLemmas
+pub mod RoomLemmas
 pub mod TableLemmas
 pub mod ChosenLemmas
 pub mod BothLemmas

@@ -22,38 +22,38 @@ Entries = List (Place × TxnNo)
 map_eq : (a b : Place) → eq-value.it a b ≡ same_place a b
 map_eq a b = ap (λ x. x && a.number == b.number) (names.map_eq a.name b.name)
 
-pub get_same : {S : Type 0} (m : HashMap Place TxnNo S) (p : Place) → get_by (eq-value.it p) m ≡ get_by (same_place p) m
+pub get_same : {V S : Type 0} (m : HashMap Place V S) (p : Place) → get_by (eq-value.it p) m ≡ get_by (same_place p) m
 get_same m p = λ i. get_by (λ q. map_eq p q i) m
 
 -- what the map has at each place after one was changed
-pub changed : {S : Type 0} (m n : HashMap Place TxnNo S) (p : Place) (v : Option TxnNo)
+pub changed : {V S : Type 0} (m n : HashMap Place V S) (p : Place) (v : Option V)
     → ((q : Place) → get eq-value.it n q ≡ cond (eq-value.it p q) v (get eq-value.it m q))
     → (q : Place) → get same_place n q ≡ cond (same_place p q) v (get same_place m q)
 changed m n p v put q =
     sym (get_same n q) ∙ put q ∙ ap (λ b. cond b v (get eq-value.it m q)) (map_eq p q) ∙ ap (λ o. cond (same_place p q) v o) (get_same m q)
 
 -- what the map has at each place after one was put
-pub inserted : {S T E : Type 0} (m n : HashMap Place TxnNo S) (r : Result T E) (p : Place) (t : TxnNo) → OnOk r (Updates eq-value.it m n p (Some t)) → IsOk r
+pub inserted : {V S T E : Type 0} (m n : HashMap Place V S) (r : Result T E) (p : Place) (t : V) → OnOk r (Updates eq-value.it m n p (Some t)) → IsOk r
     → (q : Place) → get same_place n q ≡ cond (same_place p q) (Some t) (get same_place m q)
 inserted m n (Ok x) p t updates ok = changed m n p (Some t) updates.0
 inserted m n (Err e) p t updates ok = absurd (both_ways _ refl ok)
 
 -- the map has the same at each place
-pub reordered : {S : Type 0} (m n : HashMap Place TxnNo S) → ((q : Place) → get eq-value.it n q ≡ get eq-value.it m q) → (q : Place) → get same_place n q ≡ get same_place m q
+pub reordered : {V S : Type 0} (m n : HashMap Place V S) → ((q : Place) → get eq-value.it n q ≡ get eq-value.it m q) → (q : Place) → get same_place n q ≡ get same_place m q
 reordered m n same q = sym (get_same n q) ∙ same q ∙ get_same m q
 
 -- nothing was there
-pub not_there : {S : Type 0} (m : HashMap Place TxnNo S) (p : Place) → is_some (get same_place m p) ≡ true → None ≡ get_by (eq-value.it p) m → ⊥
+pub not_there : {V S : Type 0} (m : HashMap Place V S) (p : Place) → is_some (get same_place m p) ≡ true → None ≡ get_by (eq-value.it p) m → ⊥
 not_there m p taken none = both_ways _ (ap is_some (sym (none ∙ get_same m p))) taken
 
-place_eq : (a b : Place) → same_place a b ≡ true → a ≡ b
+pub place_eq : (a b : Place) → same_place a b ≡ true → a ≡ b
 place_eq a b h =
     let p = and_parts _ _ h in
     let n : a.name ≡ b.name = name_eq a.name b.name p.0 in
     let k : a.number ≡ b.number = eqb-true a.number b.number p.1 in
     λ i. record { name = n i; number = k i }
 
-place_refl : (a : Place) → same_place a a ≡ true
+pub place_refl : (a : Place) → same_place a a ≡ true
 place_refl a = and_from _ _ (name_refl a.name) (eq-eqb a.number a.number refl)
 
 -- places that aren't equal aren't the same

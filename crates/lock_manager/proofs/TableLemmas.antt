@@ -15,6 +15,7 @@ use Rattle.lock_modes.specs.Waits.{IsBlocked, AllBlocked, waiting}
 use Rattle.lock_modes.specs.Proper.{IsRefused}
 use Rattle.lock_modes.specs.Apart.{IsApart}
 use Rattle.lock_modes.proofs.NamesLemmas.{txn_refl, txn_equiv}
+use Rattle.lock_manager.specs.Freed.{name_of}
 use Rattle.lock_manager.specs.Owners.{Owners, grants_in, left_in, left_of, victim_in, waits_in, left_sum, Changes}
 use Rattle.lock_manager.specs.Serve.{is_among, Waiters}
 use Rattle.lock_manager.proofs.ServeLemmas.{everywhere, waiters_keep}
@@ -24,7 +25,7 @@ or_none true b h = absurd (both_ways true h refl)
 or_none false b h = (refl, h)
 
 -- nothing is found where none passes, and the other way round
-find_none : (p : Request → Bool) (rs : List Request) → list_any p rs ≡ false → find p rs ≡ None
+pub find_none : (p : Request → Bool) (rs : List Request) → list_any p rs ≡ false → find p rs ≡ None
 find_none p [] h = refl
 find_none p (r ∷ rs) h = let q = or_none (p r) (list_any p rs) h in ap (λ b. cond b (Some r) (find p rs)) q.0 ∙ find_none p rs q.1
 
@@ -38,6 +39,10 @@ any_none p (r ∷ rs) h =
 not_true : (b : Bool) → not b ≡ true → b ≡ false
 not_true true h = absurd (both_ways _ refl h)
 not_true false h = refl
+
+-- who has no request asks for no name
+pub asks_nothing : (t : TxnNo) (rs : List Request) (b : Bool) → b ≡ false → b ≡ is_among t rs → None ≡ name_of (find (λ r. same_txn r.txn t) rs)
+asks_nothing t rs b h e = sym (ap name_of (find_none (λ r. same_txn r.txn t) rs (sym e ∙ h)))
 
 pub idle : (l : Lock) (t : TxnNo) (b : Bool) → b ≡ is_among t (queue l) → IsTrue (not b) ↔ (waiting l t ≡ None)
 idle l t b e = (λ h. find_none (λ r. same_txn r.txn t) (queue l) (sym e ∙ not_true b h), λ h. ap not (e ∙ any_none (λ r. same_txn r.txn t) (queue l) h))

@@ -1,5 +1,6 @@
 pub mod ByName
 pub mod Places
+pub mod Asked
 pub mod Tallies
 pub mod Holdings
 pub mod Owners

@@ -22,7 +22,7 @@ use Rattle.lock_manager.specs.Owners.{grants_in, left_in, victim_in}
 
 -- the grants, the queue and the victims: the state that lock events change
 abbrev pub lock : LockTable → Lock
-lock v = record { grants = grants_in v.ledger.owners.entries; conversions = v.conversions.items; requests = v.requests.items; victims = victim_in v.ledger.owners.entries }
+lock v = record { grants = grants_in v.ledger.owners.entries; conversions = v.conversions.line.items; requests = v.requests.line.items; victims = victim_in v.ledger.owners.entries }
 
 -- the queued requests that were granted and not given yet
 abbrev pub woken_of : LockTable → List Request

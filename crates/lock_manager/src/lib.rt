@@ -1,6 +1,7 @@
 //! Grants and queues of locks.
 #![tactic(auto)]
 
+pub mod asked;
 pub mod better;
 pub mod blocking;
 pub mod freed;
@@ -8,6 +9,7 @@ pub mod hindering;
 pub mod holders;
 pub mod holdings;
 pub mod ledger;
+pub mod line;
 pub mod names;
 pub mod owner;
 pub mod owners;

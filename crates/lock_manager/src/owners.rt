@@ -42,6 +42,16 @@ pub fn is_victim(owners: &Owners, txn: TxnNo) -> bool
     }
 }
 
+/// Whether room is set aside for a transaction's queued request.
+pub fn waits(owners: &Owners, txn: TxnNo) -> bool
+    ensures exact { result ≡ waits_in owners.now.entries txn }
+{
+    match owners.get(&txn) {
+        Some(owner) => owner.waits,
+        None => false,
+    }
+}
+
 /// For how many names more a transaction may ask.
 pub fn left(owners: &Owners, txn: TxnNo) -> u32
     ensures exact { result ≡ left_in owners.now.entries txn }

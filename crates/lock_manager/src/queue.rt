@@ -4,24 +4,31 @@ ghost use Rattle.std.specs.Prelude.{◌≡◌, ◌≤◌, ◌<◌, ◌+◌, ℕ,
 ghost use Rattle.dby_types.specs.declared.number.TxnNo.{TxnNo};
 ghost use Rattle.lock_modes.specs.Names.{same_txn, same_name};
 ghost use Rattle.lock_modes.specs.Lock.{without};
+ghost use Rattle.lock_modes.specs.Modes.{is_held};
+ghost use Rattle.lock_modes.specs.declared.name.LockName.{LockName};
 ghost use Rattle.lock_modes.specs.Waits.{asks_before, opposes, blocks, IsFree, IsBlocked};
 ghost use Rattle.lock_modes.specs.declared.entry.Request.{Request};
-ghost use Rattle.lock_manager.specs.Freed.{frees, StillBlocked};
-ghost use Rattle.lock_manager.specs.Owners.{grants_in};
-ghost use Rattle.lock_manager.specs.Serve.{Waiters, Served, ServedBoth, is_among, contests};
-ghost use Rattle.std.specs.List.{list_any};
-ghost use Rattle.lock_manager.specs.Room.{FitsAsBefore, Grows, HasRoom};
+ghost use Rattle.lock_manager.specs.Asked.{is_asked, asks_for_any};
+ghost use Rattle.lock_manager.specs.Freed.{asks, frees, name_of, StillBlocked};
+ghost use Rattle.lock_manager.specs.Owners.{grants_in, modes_of};
+ghost use Rattle.lock_manager.specs.Serve.{Waiters, Served, ServedBoth, is_among};
+ghost use Rattle.std.specs.List.{find};
+ghost use Rattle.lock_manager.specs.Room.{FitsAsBefore, Grows, HasRoom, LineFits};
 ghost use Rattle.std.specs.VecDeque.{deque_len, deque_capacity};
-ghost use Rattle.std.specs.Vec.{vec_len, vec_capacity};
+ghost use Rattle.std.specs.Vec.{vec_len};
 
-use crate::freed::{Freed, is_freed};
+use crate::blocking::request_of;
+use crate::freed::{Freed, is_freed, name_of};
 use crate::ledger::Ledger;
+use crate::line::Line;
+use crate::owner::Owner;
 use dby_types::number::TxnNo;
 use lock_modes::entry::Request;
-use lock_modes::mode::{Mode, compatible};
+use lock_modes::mode::compatible;
+use lock_modes::modes::Modes;
 use lock_modes::name::{LockName, is_same_name, is_same_txn};
 use std::alloc::AllocError;
-use std::collections::VecDeque;
+use std::collections::{HashMap, VecDeque};
 
 /// Whether a request is in the way of another on the same name.
 pub fn is_opposed(q: Request, r: Request) -> bool
@@ -31,7 +38,7 @@ pub fn is_opposed(q: Request, r: Request) -> bool
 }
 
 /// A transaction, other than the one that asks, with a request that is in the way.
-pub fn asker_in_way(requests: &[Request], r: Request) -> Option<TxnNo>
+fn asker_in_way(requests: &[Request], r: Request) -> Option<TxnNo>
     ensures found { MatchOption result ((h : TxnNo) → (not (same_txn h r.txn) && asks_before requests.now r h) ≡ false) (λ h. (not (same_txn h r.txn) && asks_before requests.now r h) ≡ true) }
 {
     for q in requests {
@@ -43,7 +50,7 @@ pub fn asker_in_way(requests: &[Request], r: Request) -> Option<TxnNo>
 }
 
 /// A transaction in the way of a request: by what it has, or by a request among the first or the second ones.
-pub fn in_way(ledger: &Ledger, first: &[Request], second: &[Request], r: Request) -> Option<TxnNo>
+fn in_way(ledger: &Ledger, first: &[Request], second: &[Request], r: Request) -> Option<TxnNo>
     ensures found { MatchOption result (IsFree (grants_in ledger.now.owners.entries) (first.now ++ second.now) r) (λ h. blocks (grants_in ledger.now.owners.entries) (first.now ++ second.now) r h ≡ true) }
 {
     if let Some(h) = ledger.in_way(r) {
@@ -53,6 +60,31 @@ pub fn in_way(ledger: &Ledger, first: &[Request], second: &[Request], r: Request
         return Some(h);
     }
     asker_in_way(second, r)
+}
+
+/// A transaction in the way of a new request of one that has something on the name already: by what it has, or by a conversion.
+pub fn in_way_of_conversion(ledger: &Ledger, conversions: &Line, r: Request) -> Option<TxnNo>
+    ensures found { MatchOption result (IsFree (grants_in ledger.now.owners.entries) conversions.now.line.items r) (λ h. blocks (grants_in ledger.now.owners.entries) conversions.now.line.items r h ≡ true) }
+{
+    if let Some(h) = ledger.in_way(r) {
+        return Some(h);
+    }
+    conversions.asker_in_way(r)
+}
+
+/// A transaction in the way of any other new request: by what it has, or by a request.
+pub fn in_way_of_request(
+    ledger: &Ledger,
+    conversions: &Line,
+    requests: &Line,
+    r: Request,
+) -> Option<TxnNo>
+    ensures found { MatchOption result (IsFree (grants_in ledger.now.owners.entries) (conversions.now.line.items ++ requests.now.line.items) r) (λ h. blocks (grants_in ledger.now.owners.entries) (conversions.now.line.items ++ requests.now.line.items) r h ≡ true) }
+{
+    if let Some(h) = in_way_of_conversion(ledger, conversions, r) {
+        return Some(h);
+    }
+    requests.asker_in_way(r)
 }
 
 /// Whether a request stays in its line, where those for names that weren't freed still wait: they needn't be looked at.
@@ -74,23 +106,22 @@ pub fn serve(
     ledger: &mut Ledger,
     freed: &Freed,
     before: &[Request],
-    line: &mut Vec<Request>,
+    line: &mut Line,
     woken: &mut VecDeque<Request>,
 )
-    requires waiters { Waiters ledger.old.owners.entries line.old.items }
-    requires still { StillBlocked (frees freed.now) (grants_in ledger.old.owners.entries) before.now line.old.items }
-    requires room { deque_len woken.old + vec_len line.old ≤ deque_capacity woken.old }
-    ensures served { Served ledger.old.owners.entries ledger.new.owners.entries before.now line.old.items line.new.items woken.old.items woken.new.items }
-    ensures still { (after : List Request) → StillBlocked (frees freed.now) (grants_in ledger.old.owners.entries) before.now (line.old.items ++ after) → StillBlocked (frees freed.now) (grants_in ledger.new.owners.entries) (before.now ++ line.new.items) after }
-    ensures room { deque_len woken.new + vec_len line.new ≡ deque_len woken.old + vec_len line.old }
+    requires waiters { Waiters ledger.old.owners.entries line.old.line.items }
+    requires still { StillBlocked (frees freed.now) (grants_in ledger.old.owners.entries) before.now line.old.line.items }
+    requires room { deque_len woken.old + vec_len line.old.line ≤ deque_capacity woken.old }
+    ensures served { Served ledger.old.owners.entries ledger.new.owners.entries before.now line.old.line.items line.new.line.items woken.old.items woken.new.items }
+    ensures still { (after : List Request) → StillBlocked (frees freed.now) (grants_in ledger.old.owners.entries) before.now (line.old.line.items ++ after) → StillBlocked (frees freed.now) (grants_in ledger.new.owners.entries) (before.now ++ line.new.line.items) after }
+    ensures room { deque_len woken.new + vec_len line.new.line ≡ deque_len woken.old + vec_len line.old.line }
     ensures capacity { deque_capacity woken.new ≡ deque_capacity woken.old }
-    ensures held { vec_capacity line.new ≡ vec_capacity line.old }
-    ensures shorter { vec_len line.new ≤ vec_len line.old }
+    ensures fits { LineFits line.old line.new }
 {
     let mut i = 0;
-    'each: while i < line.len() {
-        let r = line[i];
-        if stays(ledger, freed, before, &line[..i], r) {
+    'each: while i < line.line.len() {
+        let r = line.line[i];
+        if stays(ledger, freed, before, &line.line[..i], r) {
             i += 1;
         } else {
             line.remove(i);
@@ -107,11 +138,63 @@ pub fn has_request(requests: &[Request], t: TxnNo) -> bool
     requests.iter().any(|q| is_same_txn(q.txn, t))
 }
 
-/// Whether a transaction has a request in the queue.
-pub fn waits(conversions: &[Request], requests: &[Request], t: TxnNo) -> bool
-    ensures exact { result ≡ is_among t (conversions.now ++ requests.now) }
+/// Whether anybody asks for a name.
+fn is_wanted(conversions: &Line, requests: &Line, name: LockName) -> bool
+    ensures exact { result ≡ is_asked name (conversions.now.line.items ++ requests.now.line.items) }
 {
-    has_request(conversions, t) || has_request(requests, t)
+    conversions.is_asked(name) || requests.is_asked(name)
+}
+
+/// Whether anybody asks for one of some names.
+fn is_any_wanted(conversions: &Line, requests: &Line, names: &HashMap<LockName, Modes>) -> bool
+    ensures exact { result ≡ asks_for_any (conversions.now.line.items ++ requests.now.line.items) names.now.entries }
+{
+    for (name, _) in names {
+        if is_wanted(conversions, requests, *name) {
+            return true;
+        }
+    }
+    false
+}
+
+/// Whether anybody asks for a name that a transaction had. Where it had more names than there are requests, this isn't asked.
+fn had_wanted(conversions: &Line, requests: &Line, had: &Option<Owner>) -> bool
+    ensures none { result ≡ false → (n : LockName) → is_held (modes_of had.now n) ≡ true → is_asked n (conversions.now.line.items ++ requests.now.line.items) ≡ false }
+{
+    let waiting = conversions.line.len() + requests.line.len();
+    if waiting == 0 {
+        return false;
+    }
+    match had {
+        Some(owner) => {
+            waiting < owner.holdings.modes.len()
+                || is_any_wanted(conversions, requests, &owner.holdings.modes)
+        }
+        None => false,
+    }
+}
+
+/// Whether a request may be for a name that was freed. Of the rows of a table this isn't asked.
+fn may_wake(conversions: &Line, requests: &Line, freed: &Freed) -> bool
+    ensures none { result ≡ false → (n : LockName) → frees freed.now n ≡ true → is_asked n (conversions.now.line.items ++ requests.now.line.items) ≡ false }
+{
+    match freed {
+        Freed::Name(name) => is_wanted(conversions, requests, *name),
+        Freed::Rows(_) => true,
+        Freed::All { had, asked } => {
+            had_wanted(conversions, requests, had) || was_wanted(conversions, requests, *asked)
+        }
+    }
+}
+
+/// Whether anybody asks for the name that a transaction asked for.
+fn was_wanted(conversions: &Line, requests: &Line, asked: Option<LockName>) -> bool
+    ensures none { result ≡ false → (n : LockName) → asks asked n ≡ true → is_asked n (conversions.now.line.items ++ requests.now.line.items) ≡ false }
+{
+    match asked {
+        Some(name) => is_wanted(conversions, requests, name),
+        None => false,
+    }
 }
 
 /// Grants, in the order of the queue, each request that nothing is in the way of, and notes those that were granted. Only
@@ -119,33 +202,67 @@ pub fn waits(conversions: &[Request], requests: &[Request], t: TxnNo) -> bool
 pub fn serve_both(
     ledger: &mut Ledger,
     freed: &Freed,
-    conversions: &mut Vec<Request>,
-    requests: &mut Vec<Request>,
+    conversions: &mut Line,
+    requests: &mut Line,
     woken: &mut VecDeque<Request>,
 )
-    requires waiters { Waiters ledger.old.owners.entries (conversions.old.items ++ requests.old.items) }
-    requires still { StillBlocked (frees freed.now) (grants_in ledger.old.owners.entries) [] (conversions.old.items ++ requests.old.items) }
-    requires room { deque_len woken.old + (vec_len conversions.old + vec_len requests.old) ≤ deque_capacity woken.old }
-    ensures served { ServedBoth ledger.old.owners.entries ledger.new.owners.entries conversions.old.items requests.old.items conversions.new.items requests.new.items woken.old.items woken.new.items }
+    requires waiters { Waiters ledger.old.owners.entries (conversions.old.line.items ++ requests.old.line.items) }
+    requires still { StillBlocked (frees freed.now) (grants_in ledger.old.owners.entries) [] (conversions.old.line.items ++ requests.old.line.items) }
+    requires room { deque_len woken.old + (vec_len conversions.old.line + vec_len requests.old.line) ≤ deque_capacity woken.old }
+    ensures served { ServedBoth ledger.old.owners.entries ledger.new.owners.entries conversions.old.line.items requests.old.line.items conversions.new.line.items requests.new.line.items woken.old.items woken.new.items }
     ensures room { FitsAsBefore conversions.old requests.old woken.old conversions.new requests.new woken.new }
 {
+    if !may_wake(conversions, requests, freed) {
+        return;
+    }
     serve(ledger, freed, &[], conversions, woken);
-    serve(ledger, freed, conversions, requests, woken);
+    serve(ledger, freed, &conversions.line, requests, woken);
 }
 
 /// Takes a transaction's requests away.
-pub fn drop_requests(requests: &mut Vec<Request>, t: TxnNo)
-    ensures exact { requests.new.items ≡ without t requests.old.items }
-    ensures shorter { vec_len requests.new ≤ vec_len requests.old }
-    ensures held { vec_capacity requests.new ≡ vec_capacity requests.old }
+fn drop_requests(line: &mut Line, t: TxnNo)
+    ensures exact { line.new.line.items ≡ without t line.old.line.items }
+    ensures fits { LineFits line.old line.new }
 {
-    requests.retain(|q| !is_same_txn(q.txn, t));
+    let mut i = 0;
+    'each: while i < line.line.len() {
+        if is_same_txn(line.line[i].txn, t) {
+            line.remove(i);
+        } else {
+            i += 1;
+        }
+    }
+}
+
+/// Takes a transaction's request away, where it waits.
+pub fn drop_both(conversions: &mut Line, requests: &mut Line, t: TxnNo, waits: bool)
+    requires { waits ≡ is_among t (conversions.old.line.items ++ requests.old.line.items) }
+    ensures conversions { conversions.new.line.items ≡ without t conversions.old.line.items }
+    ensures requests { requests.new.line.items ≡ without t requests.old.line.items }
+    ensures conversions_fit { LineFits conversions.old conversions.new }
+    ensures requests_fit { LineFits requests.old requests.new }
+{
+    if waits {
+        drop_requests(conversions, t);
+        drop_requests(requests, t);
+    }
+}
+
+/// The name that a transaction asks for, where it waits.
+pub fn asked_by(conversions: &Line, requests: &Line, t: TxnNo, waits: bool) -> Option<LockName>
+    requires { waits ≡ is_among t (conversions.now.line.items ++ requests.now.line.items) }
+    ensures exact { result ≡ name_of (find (λ r. same_txn r.txn t) (conversions.now.line.items ++ requests.now.line.items)) }
+{
+    if !waits {
+        return None;
+    }
+    name_of(request_of(&conversions.line, &requests.line, t))
 }
 
 /// Makes room for so many names more.
 pub fn make_room(
-    conversions: &mut Vec<Request>,
-    requests: &mut Vec<Request>,
+    conversions: &mut Line,
+    requests: &mut Line,
     woken: &mut VecDeque<Request>,
     left: usize,
 ) -> Result<(), AllocError>
@@ -154,18 +271,11 @@ pub fn make_room(
 {
     conversions.reserve(left)?;
     requests.reserve(left)?;
-    let Some(waiting) = conversions.len().checked_add(requests.len()) else {
+    let Some(waiting) = conversions.line.len().checked_add(requests.line.len()) else {
         return Err(AllocError);
     };
     let Some(all) = waiting.checked_add(left) else {
         return Err(AllocError);
     };
     woken.reserve(all)
-}
-
-/// Whether a request on the name isn't compatible with the mode.
-pub fn is_contested(requests: &[Request], name: LockName, mode: Mode) -> bool
-    ensures exact { result ≡ list_any (contests name mode) requests.now }
-{
-    requests.iter().any(|q| is_same_name(q.name, name) && !compatible(q.mode, mode))
 }

@@ -13,11 +13,14 @@ ghost use Rattle.lock_manager.specs.Owners.{left_sum, waits_in, grants_in};
 ghost use Rattle.lock_manager.specs.Serve.{Waiters, is_among};
 
 use crate::blocking::{least_blocker, request_of};
-use crate::freed::{Freed, name_of};
+use crate::freed::Freed;
 use crate::holders::{self, Holders};
 use crate::ledger::Ledger;
+use crate::line::Line;
 use crate::owners;
-use crate::queue::{drop_requests, in_way, is_contested, make_room, serve_both, waits};
+use crate::queue::{
+    asked_by, drop_both, in_way_of_conversion, in_way_of_request, make_room, serve_both,
+};
 use crate::tried::Tried;
 use dby_types::number::TxnNo;
 use lock_modes::cycle::Edge;
@@ -34,14 +37,14 @@ pub struct LockTable {
     ledger: Ledger,
     /// For how many names more all transactions may ask.
     left: usize,
-    conversions: Vec<Request>,
-    requests: Vec<Request>,
+    conversions: Line,
+    requests: Line,
     woken: VecDeque<Request>,
     ghost total: { left ≡ left_sum ledger.owners.entries },
     ghost room: { HasRoom left conversions requests woken },
-    ghost waiters: { Waiters ledger.owners.entries (conversions.items ++ requests.items) } by { Waiters-prop _ _ },
-    ghost only: { (t : TxnNo) → waits_in ledger.owners.entries t ≡ is_among t (conversions.items ++ requests.items) },
-    ghost settled: { AllBlocked (grants_in ledger.owners.entries) [] (conversions.items ++ requests.items) } by { AllBlocked-prop _ _ _ },
+    ghost waiters: { Waiters ledger.owners.entries (conversions.line.items ++ requests.line.items) } by { Waiters-prop _ _ },
+    ghost only: { (t : TxnNo) → waits_in ledger.owners.entries t ≡ is_among t (conversions.line.items ++ requests.line.items) },
+    ghost settled: { AllBlocked (grants_in ledger.owners.entries) [] (conversions.line.items ++ requests.line.items) } by { AllBlocked-prop _ _ _ },
     ghost apart: { IsApart (grants_in ledger.owners.entries) } by { IsApart-prop _ },
 }
 
@@ -61,8 +64,8 @@ impl LockTable {
             alloc,
             ledger: Ledger::new(alloc),
             left: 0,
-            conversions: Vec::new(alloc),
-            requests: Vec::new(alloc),
+            conversions: Line::new(alloc),
+            requests: Line::new(alloc),
             woken: VecDeque::new(alloc),
         }
     }
@@ -85,18 +88,23 @@ impl LockTable {
     pub fn waiters(&self) -> usize
         ensures exact { result ≡ length (queue (lock self.now)) }
     {
-        self.conversions.len() + self.requests.len()
+        self.conversions.line.len() + self.requests.line.len()
     }
 
     /// The edge from a transaction to the least one, above a given number, for which it waits.
     pub fn blocker(&self, t: TxnNo, above: Option<TxnNo>) -> Option<Edge>
         ensures edge { MatchOption result (IsUnblocked (lock self.now) t above) (λ e. IsBlocker (lock self.now) t above e) }
     {
-        let Some(r) = request_of(&self.conversions, &self.requests, t) else {
+        let Some(r) = request_of(&self.conversions.line, &self.requests.line, t) else {
             return None;
         };
-        let Some(holder) = least_blocker(&self.ledger, &self.conversions, &self.requests, r, above)
-        else {
+        let Some(holder) = least_blocker(
+            &self.ledger,
+            &self.conversions.line,
+            &self.requests.line,
+            r,
+            above,
+        ) else {
             return None;
         };
         let locks = owners::count(&self.ledger.owners, t);
@@ -166,7 +174,7 @@ impl LockTable {
     pub fn granted(&self, t: TxnNo) -> bool
         ensures exact { IsTrue result ↔ (waiting (lock self.now) t ≡ None) }
     {
-        !waits(&self.conversions, &self.requests, t)
+        !owners::waits(&self.ledger.owners, t)
     }
 
     /// Whether the mode is compatible with all that is granted and asked for on the name.
@@ -174,8 +182,8 @@ impl LockTable {
         ensures exact { IsTrue result ↔ IsUncontested (lock self.now) name mode }
     {
         let held = self.ledger.hinders(name, mode).is_some();
-        let asked = is_contested(&self.conversions, name, mode);
-        let queued = is_contested(&self.requests, name, mode);
+        let asked = self.conversions.is_contested(name, mode);
+        let queued = self.requests.is_contested(name, mode);
         !held && (!asked && !queued)
     }
 
@@ -197,9 +205,9 @@ impl LockTable {
             return None;
         }
         if modes.is_held() {
-            in_way(&self.ledger, &self.conversions, &[], r)
+            in_way_of_conversion(&self.ledger, &self.conversions, r)
         } else {
-            in_way(&self.ledger, &self.conversions, &self.requests, r)
+            in_way_of_request(&self.ledger, &self.conversions, &self.requests, r)
         }
     }
 
@@ -293,7 +301,7 @@ impl LockTable {
     {
         self.ledger.wait(r.txn);
         self.left -= 1;
-        self.conversions.push_reserved(r);
+        self.conversions.push(r);
     }
 
     fn queue_request(&mut self, r: Request)
@@ -306,7 +314,7 @@ impl LockTable {
     {
         self.ledger.wait(r.txn);
         self.left -= 1;
-        self.requests.push_reserved(r);
+        self.requests.push(r);
     }
 
     /// Gives back all that a transaction has on a name, and grants what can be granted then.
@@ -375,11 +383,11 @@ impl LockTable {
         ensures room { (u : TxnNo) → spare_of self.new u ≡ (if same_txn t u then 0 else spare_of self.old u) }
     {
         let left = owners::left(&self.ledger.owners, t);
-        let asked = name_of(request_of(&self.conversions, &self.requests, t));
+        let waits = owners::waits(&self.ledger.owners, t);
+        let asked = asked_by(&self.conversions, &self.requests, t, waits);
         let had = self.ledger.remove(t);
         self.left -= left as usize;
-        drop_requests(&mut self.conversions, t);
-        drop_requests(&mut self.requests, t);
+        drop_both(&mut self.conversions, &mut self.requests, t, waits);
         serve_both(
             &mut self.ledger,
             &Freed::All { had, asked },

@@ -9,7 +9,7 @@ use Rattle.lock_manager.proofs.table.LockTable.choose.Goals as goal
 pub invariant_of-self : goal.invariant_of-self
 invariant_of-self c =
     let s = c.args.self.now in
-    let q = s.conversions.items ++ s.requests.items in
+    let q = s.conversions.line.items ++ s.requests.line.items in
     let waits = keep_waits s.ledger.owners.entries c.choose.new.self.owners.entries c.args.t (grants_in s.ledger.owners.entries) c.choose.ensures.changes c.choose.ensures.same in
     record {
       total = keep_total s.ledger.owners.entries c.choose.new.self.owners.entries c.args.t (grants_in s.ledger.owners.entries) s.left c.choose.ensures.changes c.choose.ensures.room s.total;

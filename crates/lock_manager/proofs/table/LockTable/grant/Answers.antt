@@ -10,12 +10,13 @@ use Rattle.lock_manager.proofs.TableLemmas.{keep_waits, keep_victims, waiters_sa
 use Rattle.lock_manager.proofs.TableLemmas.{apart_as}
 use Rattle.lock_modes.proofs.ApartLemmas.{apart_may}
 use Rattle.lock_modes.specs.Waits.{earlier}
+use Rattle.lock_manager.proofs.RoomLemmas.{room_less}
 use Rattle.lock_manager.proofs.table.LockTable.grant.Goals as goal
 
 pub invariant_of-self : goal.invariant_of-self
 invariant_of-self c =
     let s = c.args.self.now in
-    let q = s.conversions.items ++ s.requests.items in
+    let q = s.conversions.line.items ++ s.requests.line.items in
     let held = is_held (grants_in s.ledger.owners.entries c.args.r.txn c.args.r.name) in
     let after = granted (grants_in s.ledger.owners.entries) c.args.r in
     let waits = keep_waits s.ledger.owners.entries c.grant.new.self.owners.entries c.args.r.txn after c.grant.ensures.changes c.grant.ensures.same in
@@ -24,7 +25,7 @@ invariant_of-self c =
     let less : c.less_one-self.result ≤ s.left = subst (λ (n : ℕ). n ≤ s.left) (sym left) (less_le held s.left) in
     record {
       total = left ∙ spent_total s.ledger.owners.entries c.grant.new.self.owners.entries c.args.r.txn after held s.left c.grant.ensures.changes c.grant.ensures.room c.requires.room s.total;
-      room = record { conversions_fit = omega (arith, s.room.conversions_fit, less); requests_fit = omega (arith, s.room.requests_fit, less); woken_fit = omega (arith, s.room.woken_fit, less) };
+      room = record { conversions_fit = room_less s.left c.less_one-self.result s.conversions less s.room.conversions_fit; requests_fit = room_less s.left c.less_one-self.result s.requests less s.room.requests_fit; woken_fit = omega (arith, s.room.woken_fit, less) };
       waiters = waiters_same s.ledger.owners.entries c.grant.new.self.owners.entries waits q s.waiters;
       only = λ u. waits u ∙ s.only u;
       settled = settled_as c.grant.new.self.owners.entries after _ q c.grant.ensures.changes.grants_are (all_blocked_more (grants_in s.ledger.owners.entries) c.args.r _ q s.settled);
@@ -35,8 +36,8 @@ pub returns-clause-ok : goal.returns-clause-ok
 returns-clause-ok c =
     let s = c.args.self.now in
     let after = granted (grants_in s.ledger.owners.entries) c.args.r in
-    let p = not_among_parts c.args.r.txn s.conversions.items s.requests.items (not_among (lock s) c.args.r.txn c.requires.idle) in
+    let p = not_among_parts c.args.r.txn s.conversions.line.items s.requests.line.items (not_among (lock s) c.args.r.txn c.requires.idle) in
     lock_path _ _ (grants_path c.grant.new.self.owners.entries after c.grant.ensures.changes.grants_are)
-    (sym (without_none c.args.r.txn c.args.r.name s.conversions.items p.0))
-    (sym (without_none c.args.r.txn c.args.r.name s.requests.items p.1))
+    (sym (without_none c.args.r.txn c.args.r.name s.conversions.line.items p.0))
+    (sym (without_none c.args.r.txn c.args.r.name s.requests.line.items p.1))
     (keep_victims s.ledger.owners.entries c.grant.new.self.owners.entries c.args.r.txn after c.grant.ensures.changes c.grant.ensures.victim)

@@ -1,4 +1,4 @@
-use Rattle.std.proofs.Common.{◌≡◌, ◌<◌, ◌++◌, [], ◌∙◌, ap, sym, subst, arith, List, refl, append-nil}
+use Rattle.std.proofs.Common.{◌≡◌, ◌<◌, ◌-◌, ◌++◌, [], ◌∙◌, ap, sym, subst, arith, List, refl, append-nil}
 use Rattle.dby_types.specs.declared.number.TxnNo.{TxnNo}
 use Rattle.lock_modes.specs.declared.entry.Request.{Request}
 use Rattle.lock_modes.specs.Waits.{AllBlocked}
@@ -8,6 +8,7 @@ use Rattle.lock_manager.specs.Table.{lock}
 use Rattle.lock_manager.proofs.BlockedLemmas.{queued_request}
 use Rattle.lock_manager.proofs.TableLemmas.{keep_victims, settled_as, lock_path, grants_path, not_among, waiters_insert, only_insert, behind_all, set_aside, less_left}
 use Rattle.lock_manager.proofs.TableLemmas.{apart_as}
+use Rattle.lock_manager.proofs.RoomLemmas.{room_less, room_pushed}
 use Rattle.lock_manager.proofs.table.LockTable.queue_request.Goals as goal
 
 pub invariant_of-self : goal.invariant_of-self
@@ -18,27 +19,36 @@ invariant_of-self c =
     let g = grants_in os in
     let aside = set_aside os os' c.args.r.txn g s.left c.wait.ensures.changes c.wait.ensures.room s.total in
     let none = not_among (lock s) c.args.r.txn c.requires.idle in
-    let items = c.push_reserved.ensures.items in
-    let lists = behind_all s.conversions.items s.requests.items c.args.r in
-    let whole = append-nil (s.conversions.items ++ s.requests.items) in
+    let items = c.push.ensures.items in
+    let lists = behind_all s.conversions.line.items s.requests.line.items c.args.r in
+    let whole = append-nil (s.conversions.line.items ++ s.requests.line.items) in
     let positive : 0 < s.left = aside.0 in
     record {
       total = aside.1;
-      room = record { conversions_fit = omega (arith, s.room.conversions_fit, positive, c.push_reserved.ensures.len, c.push_reserved.ensures.capacity); requests_fit = omega (arith, s.room.requests_fit, positive, c.push_reserved.ensures.len, c.push_reserved.ensures.capacity); woken_fit = omega (arith, s.room.woken_fit, positive, c.push_reserved.ensures.len) };
-      waiters = subst (λ (x : List Request). Waiters os' (s.conversions.items ++ x)) (sym items) (subst (λ (x : List Request). Waiters os' x) lists (waiters_insert os os' c.args.r c.wait.ensures.changes.others_wait c.wait.ensures.same (s.conversions.items ++ s.requests.items) [] (subst (λ (x : List Request). Waiters os x) (sym whole) s.waiters) (ap (λ x. is_among c.args.r.txn x) whole ∙ none)));
-      only = subst (λ (x : List Request). (u : TxnNo) → waits_in os' u ≡ is_among u (s.conversions.items ++ x)) (sym items) (subst (λ (x : List Request). (u : TxnNo) → waits_in os' u ≡ is_among u x) lists (only_insert os os' c.args.r c.wait.ensures.changes.others_wait c.wait.ensures.same (s.conversions.items ++ s.requests.items) [] (subst (λ (x : List Request). (u : TxnNo) → waits_in os u ≡ is_among u x) (sym whole) s.only)));
-      settled = subst (λ (x : List Request). AllBlocked (grants_in os') [] (s.conversions.items ++ x)) (sym items) (settled_as os' g [] _ c.wait.ensures.changes.grants_are (queued_request g s.conversions.items s.requests.items c.args.r s.settled c.requires.blocked));
+      room = record { conversions_fit = room_less s.left (s.left - 1) s.conversions (omega arith) s.room.conversions_fit; requests_fit = room_pushed s.left s.requests c.push.new.self positive c.push.ensures.len c.push.ensures.capacity c.push.ensures.spare s.room.requests_fit; woken_fit = omega (arith, s.room.woken_fit, positive, c.push.ensures.len) };
+      waiters = subst (λ (x : List Request). Waiters os' (s.conversions.line.items ++ x)) (sym items) (subst (λ (x : List Request). Waiters os' x) lists (waiters_insert os os' c.args.r c.wait.ensures.changes.others_wait c.wait.ensures.same (s.conversions.line.items ++ s.requests.line.items) [] (subst (λ (x : List Request). Waiters os x) (sym whole) s.waiters) (ap (λ x. is_among c.args.r.txn x) whole ∙ none)));
+      only = subst (λ (x : List Request). (u : TxnNo) → waits_in os' u ≡ is_among u (s.conversions.line.items ++ x)) (sym items) (subst (λ (x : List Request). (u : TxnNo) → waits_in os' u ≡ is_among u x) lists (only_insert os os' c.args.r c.wait.ensures.changes.others_wait c.wait.ensures.same (s.conversions.line.items ++ s.requests.line.items) [] (subst (λ (x : List Request). (u : TxnNo) → waits_in os u ≡ is_among u x) (sym whole) s.only)));
+      settled = subst (λ (x : List Request). AllBlocked (grants_in os') [] (s.conversions.line.items ++ x)) (sym items) (settled_as os' g [] _ c.wait.ensures.changes.grants_are (queued_request g s.conversions.line.items s.requests.line.items c.args.r s.settled c.requires.blocked));
       apart = apart_as os' g c.wait.ensures.changes.grants_are s.apart;
     }
 
-pub push_reserved-requires : goal.push_reserved-requires
-push_reserved-requires c =
+pub push-requires-clause-line : goal.push-requires-clause-line
+push-requires-clause-line c =
     let s = c.args.self.now in
     let os = s.ledger.owners.entries in
     let os' = c.wait.new.self.owners.entries in
     let g = grants_in os in
     let aside = set_aside os os' c.args.r.txn g s.left c.wait.ensures.changes c.wait.ensures.room s.total in
-    omega (arith, s.room.requests_fit, aside.0)
+    omega (arith, s.room.requests_fit.line_fits, aside.0)
+
+pub push-requires-clause-asked : goal.push-requires-clause-asked
+push-requires-clause-asked c =
+    let s = c.args.self.now in
+    let os = s.ledger.owners.entries in
+    let os' = c.wait.new.self.owners.entries in
+    let g = grants_in os in
+    let aside = set_aside os os' c.args.r.txn g s.left c.wait.ensures.changes c.wait.ensures.room s.total in
+    omega (arith, s.room.requests_fit.names_fit, aside.0)
 
 pub overflow_sub-self : goal.overflow_sub-self
 overflow_sub-self c =
@@ -55,7 +65,7 @@ returns-clause-ok c =
     let os = s.ledger.owners.entries in
     let os' = c.wait.new.self.owners.entries in
     let g = grants_in os in
-    lock_path _ _ (grants_path os' g c.wait.ensures.changes.grants_are) refl c.push_reserved.ensures.items
+    lock_path _ _ (grants_path os' g c.wait.ensures.changes.grants_are) refl c.push.ensures.items
     (keep_victims os os' c.args.r.txn g c.wait.ensures.changes c.wait.ensures.victim)
 
 pub returns-clause-room : goal.returns-clause-room

@@ -4,6 +4,7 @@ use Rattle.lock_modes.specs.declared.name.LockName.{LockName}
 use Rattle.lock_manager.specs.Owners.{grants_in, waits_in, victim_in, left_in}
 use Rattle.lock_manager.proofs.TableLemmas.{keep_total, keep_waits, keep_victims, kept_waiters, kept_only, kept_settled, more_total, lock_path}
 use Rattle.lock_manager.proofs.TableLemmas.{apart_as}
+use Rattle.lock_manager.proofs.RoomLemmas.{room_grows}
 use Rattle.lock_manager.proofs.table.LockTable.widen.Goals as goal
 
 pub invariant_of-self-in-Break-branch-2 : goal.invariant_of-self-in-Break-branch-2
@@ -15,10 +16,10 @@ invariant_of-self-in-Break-branch-2 c =
     let same1 = c.open.ensures.same in
     record {
       total = s.total ∙ sym same1.total;
-      room = record { conversions_fit = omega (arith, s.room.conversions_fit, grows.conversions_len, grows.conversions_room); requests_fit = omega (arith, s.room.requests_fit, grows.requests_len, grows.requests_room); woken_fit = omega (arith, s.room.woken_fit, grows.woken_len, grows.woken_room, grows.conversions_len, grows.requests_len) };
-      waiters = kept_waiters os os1 s.conversions.items s.requests.items c.make_room.new.conversions.items c.make_room.new.requests.items same1.waits grows.conversions_are grows.requests_are s.waiters;
-      only = kept_only os os1 s.conversions.items s.requests.items c.make_room.new.conversions.items c.make_room.new.requests.items same1.waits grows.conversions_are grows.requests_are s.only;
-      settled = kept_settled os os1 s.conversions.items s.requests.items c.make_room.new.conversions.items c.make_room.new.requests.items same1.grants grows.conversions_are grows.requests_are s.settled;
+      room = record { conversions_fit = room_grows s.left s.conversions c.make_room.new.conversions grows.conversions_grow s.room.conversions_fit; requests_fit = room_grows s.left s.requests c.make_room.new.requests grows.requests_grow s.room.requests_fit; woken_fit = omega (arith, s.room.woken_fit, grows.woken_len, grows.woken_room, grows.conversions_grow.len, grows.requests_grow.len) };
+      waiters = kept_waiters os os1 s.conversions.line.items s.requests.line.items c.make_room.new.conversions.line.items c.make_room.new.requests.line.items same1.waits grows.conversions_grow.items grows.requests_grow.items s.waiters;
+      only = kept_only os os1 s.conversions.line.items s.requests.line.items c.make_room.new.conversions.line.items c.make_room.new.requests.line.items same1.waits grows.conversions_grow.items grows.requests_grow.items s.only;
+      settled = kept_settled os os1 s.conversions.line.items s.requests.line.items c.make_room.new.conversions.line.items c.make_room.new.requests.line.items same1.grants grows.conversions_grow.items grows.requests_grow.items s.settled;
       apart = apart_as os1 (grants_in os) same1.grants s.apart;
     }
 
@@ -35,10 +36,10 @@ invariant_of-self-in-Err-1 c =
     let grants2 : (u : TxnNo) (n : LockName) → grants_in os2 u n ≡ grants_in os u n = λ u n. ch.grants_are u n ∙ same1.grants u n in
     record {
       total = keep_total os1 os2 c.args.t (grants_in os1) s.left ch c.in-Err.ensures.room (s.total ∙ sym same1.total);
-      room = record { conversions_fit = omega (arith, s.room.conversions_fit, grows.conversions_len, grows.conversions_room); requests_fit = omega (arith, s.room.requests_fit, grows.requests_len, grows.requests_room); woken_fit = omega (arith, s.room.woken_fit, grows.woken_len, grows.woken_room, grows.conversions_len, grows.requests_len) };
-      waiters = kept_waiters os os2 s.conversions.items s.requests.items c.make_room.new.conversions.items c.make_room.new.requests.items waits2 grows.conversions_are grows.requests_are s.waiters;
-      only = kept_only os os2 s.conversions.items s.requests.items c.make_room.new.conversions.items c.make_room.new.requests.items waits2 grows.conversions_are grows.requests_are s.only;
-      settled = kept_settled os os2 s.conversions.items s.requests.items c.make_room.new.conversions.items c.make_room.new.requests.items grants2 grows.conversions_are grows.requests_are s.settled;
+      room = record { conversions_fit = room_grows s.left s.conversions c.make_room.new.conversions grows.conversions_grow s.room.conversions_fit; requests_fit = room_grows s.left s.requests c.make_room.new.requests grows.requests_grow s.room.requests_fit; woken_fit = omega (arith, s.room.woken_fit, grows.woken_len, grows.woken_room, grows.conversions_grow.len, grows.requests_grow.len) };
+      waiters = kept_waiters os os2 s.conversions.line.items s.requests.line.items c.make_room.new.conversions.line.items c.make_room.new.requests.line.items waits2 grows.conversions_grow.items grows.requests_grow.items s.waiters;
+      only = kept_only os os2 s.conversions.line.items s.requests.line.items c.make_room.new.conversions.line.items c.make_room.new.requests.line.items waits2 grows.conversions_grow.items grows.requests_grow.items s.only;
+      settled = kept_settled os os2 s.conversions.line.items s.requests.line.items c.make_room.new.conversions.line.items c.make_room.new.requests.line.items grants2 grows.conversions_grow.items grows.requests_grow.items s.settled;
       apart = apart_as os2 (grants_in os) grants2 s.apart;
     }
 
@@ -59,9 +60,9 @@ invariant_of-self-in-Ok c =
     record {
       total = sum ∙ more_total os1 os2 c.args.t (grants_in os1) s.left c.args.n ch c.in-Ok.ensures.room more (s.total ∙ sym same1.total);
       room = c.in_ok-make_room.ensures.ok;
-      waiters = kept_waiters os os2 s.conversions.items s.requests.items c.make_room.new.conversions.items c.make_room.new.requests.items waits2 grows.conversions_are grows.requests_are s.waiters;
-      only = kept_only os os2 s.conversions.items s.requests.items c.make_room.new.conversions.items c.make_room.new.requests.items waits2 grows.conversions_are grows.requests_are s.only;
-      settled = kept_settled os os2 s.conversions.items s.requests.items c.make_room.new.conversions.items c.make_room.new.requests.items grants2 grows.conversions_are grows.requests_are s.settled;
+      waiters = kept_waiters os os2 s.conversions.line.items s.requests.line.items c.make_room.new.conversions.line.items c.make_room.new.requests.line.items waits2 grows.conversions_grow.items grows.requests_grow.items s.waiters;
+      only = kept_only os os2 s.conversions.line.items s.requests.line.items c.make_room.new.conversions.line.items c.make_room.new.requests.line.items waits2 grows.conversions_grow.items grows.requests_grow.items s.only;
+      settled = kept_settled os os2 s.conversions.line.items s.requests.line.items c.make_room.new.conversions.line.items c.make_room.new.requests.line.items grants2 grows.conversions_grow.items grows.requests_grow.items s.settled;
       apart = apart_as os2 (grants_in os) grants2 s.apart;
     }
 
@@ -77,7 +78,7 @@ returns-in-Ok-clause-same c =
     let waits2 : (u : TxnNo) → waits_in os2 u ≡ waits_in os u = λ u. keep_waits os1 os2 c.args.t (grants_in os1) ch c.reserve.ensures.same u ∙ same1.waits u in
     let grants2 : (u : TxnNo) (n : LockName) → grants_in os2 u n ≡ grants_in os u n = λ u n. ch.grants_are u n ∙ same1.grants u n in
     let v : (u : TxnNo) → victim_in os2 u ≡ victim_in os u = λ u. ap (λ f. f u) (keep_victims os1 os2 c.args.t (grants_in os1) ch c.reserve.ensures.victim) ∙ same1.victims u in
-    lock_path _ _ (λ i u n. grants2 u n i) grows.conversions_are grows.requests_are (λ i u. v u i)
+    lock_path _ _ (λ i u n. grants2 u n i) grows.conversions_grow.items grows.requests_grow.items (λ i u. v u i)
 
 pub returns-in-Err-clause-same : goal.returns-in-Err-clause-same
 returns-in-Err-clause-same c =
@@ -91,4 +92,4 @@ returns-in-Err-clause-same c =
     let waits2 : (u : TxnNo) → waits_in os2 u ≡ waits_in os u = λ u. keep_waits os1 os2 c.args.t (grants_in os1) ch c.reserve.ensures.same u ∙ same1.waits u in
     let grants2 : (u : TxnNo) (n : LockName) → grants_in os2 u n ≡ grants_in os u n = λ u n. ch.grants_are u n ∙ same1.grants u n in
     let v : (u : TxnNo) → victim_in os2 u ≡ victim_in os u = λ u. ap (λ f. f u) (keep_victims os1 os2 c.args.t (grants_in os1) ch c.reserve.ensures.victim) ∙ same1.victims u in
-    lock_path _ _ (λ i u n. grants2 u n i) grows.conversions_are grows.requests_are (λ i u. v u i)
+    lock_path _ _ (λ i u n. grants2 u n i) grows.conversions_grow.items grows.requests_grow.items (λ i u. v u i)

@@ -1,0 +1,99 @@
+//! A line of queued requests, and the same by name.
+
+ghost use Rattle.std.specs.Prelude.{◌≡◌, ◌≤◌, ◌<◌, ◌+◌, ◌++◌, ◌∷◌, [], true, false, not, ◌&&◌, MatchOption, OnOk, length};
+ghost use Rattle.std.specs.HashMap.{spare};
+ghost use Rattle.std.specs.Vec.{vec_len, vec_capacity};
+ghost use Rattle.lock_manager.specs.Asked.{IsByName};
+
+use crate::asked::{self, Asked};
+use dby_types::number::TxnNo;
+use lock_modes::entry::Request;
+use lock_modes::mode::Mode;
+use lock_modes::name::LockName;
+use std::alloc::{AllocError, Global};
+use std::collections::HashMap;
+
+/// Queued requests, the oldest first, listed by name too.
+#[derive(Drop)]
+pub struct Line {
+    pub line: Vec<Request>,
+    pub asked: Asked,
+    ghost by_name: { IsByName asked line.items },
+}
+
+impl Line {
+    ghost use Rattle.std.specs.List.{list_any, remove};
+    ghost use Rattle.dby_types.specs.declared.number.TxnNo.{TxnNo};
+    ghost use Rattle.lock_modes.specs.Names.{same_txn};
+    ghost use Rattle.lock_modes.specs.Waits.{asks_before};
+    ghost use Rattle.lock_manager.specs.Asked.{is_asked};
+    ghost use Rattle.lock_manager.specs.Room.{LineGrows, LineHasRoom};
+    ghost use Rattle.lock_manager.specs.Serve.{contests};
+
+    /// Nobody.
+    pub fn new(alloc: Global) -> Line
+        ensures none { result.line.items ≡ [] }
+        ensures len { vec_len result.line ≡ 0 }
+    {
+        Line {
+            line: Vec::new(alloc),
+            asked: HashMap::new(alloc),
+        }
+    }
+
+    /// Whether anybody asks for a name.
+    pub fn is_asked(&self, name: LockName) -> bool
+        ensures exact { result ≡ is_asked name self.now.line.items }
+    {
+        asked::is_asked(&self.asked, &self.line, name)
+    }
+
+    /// A transaction, other than the one that asks, with a request that is in the way.
+    pub fn asker_in_way(&self, r: Request) -> Option<TxnNo>
+        ensures found { MatchOption result ((h : TxnNo) → (not (same_txn h r.txn) && asks_before self.now.line.items r h) ≡ false) (λ h. (not (same_txn h r.txn) && asks_before self.now.line.items r h) ≡ true) }
+    {
+        asked::asker_in_way(&self.asked, &self.line, r)
+    }
+
+    /// Whether a request on the name isn't compatible with the mode.
+    pub fn is_contested(&self, name: LockName, mode: Mode) -> bool
+        ensures exact { result ≡ list_any (contests name mode) self.now.line.items }
+    {
+        asked::is_contested(&self.asked, &self.line, name, mode)
+    }
+
+    /// Adds a request at the end.
+    pub fn push(&mut self, r: Request)
+        requires line { vec_len self.old.line < vec_capacity self.old.line }
+        requires asked { 0 < spare self.old.asked }
+        ensures items { self.new.line.items ≡ self.old.line.items ++ r ∷ [] }
+        ensures len { vec_len self.new.line ≡ vec_len self.old.line + 1 }
+        ensures capacity { vec_capacity self.new.line ≡ vec_capacity self.old.line }
+        ensures spare { spare self.old.asked ≤ spare self.new.asked + 1 }
+    {
+        asked::note(&mut self.asked, &self.line, r);
+        self.line.push_reserved(r);
+    }
+
+    /// Takes the request at a place away.
+    pub fn remove(&mut self, i: usize)
+        requires { i < vec_len self.old.line }
+        ensures items { self.new.line.items ≡ remove self.old.line.items i }
+        ensures len { vec_len self.new.line + 1 ≡ vec_len self.old.line }
+        ensures capacity { vec_capacity self.new.line ≡ vec_capacity self.old.line }
+        ensures spare { spare self.old.asked ≤ spare self.new.asked }
+    {
+        let r = self.line[i];
+        asked::strike(&mut self.asked, &self.line, i, r);
+        self.line.remove(i);
+    }
+
+    /// Makes room for so many requests more.
+    pub fn reserve(&mut self, n: usize) -> Result<(), AllocError>
+        ensures same { LineGrows self.old self.new }
+        ensures ok { OnOk result (LineHasRoom n self.new) }
+    {
+        self.line.reserve(n)?;
+        self.asked.reserve(n)
+    }
+}
