@@ -1,10 +1,13 @@
 -- A run: the journal that a walk by a plan leaves.
-use Rattle.std.specs.Prelude.{◌≡◌, ◌==◌, ℕ, List, [], Option, Some, None, if◌then◌else◌}
+use Rattle.std.specs.Prelude.{◌≡◌, ◌==◌, ℕ, List, [], length, Option, Some, None, if◌then◌else◌}
 use Rattle.table_model.specs.Tables.{no_tables}
+use Rattle.store_api.specs.View.{View}
+use Rattle.session_engine.specs.Opening.{IsEmptyStore}
+use Rattle.engine_close.specs.Closing.{AllAtRest, Ends}
 use Rattle.session_model.specs.declared.journal.Journal.{Journal}
 use Rattle.session_model.specs.Legal.{IsLegal}
 use Rattle.step_plan.specs.declared.plan.StepLine.{StepLine}
-use Rattle.plan_walk.specs.Walk.{IsWalk}
+use Rattle.plan_walk.specs.Walk.{IsWalk, Seen, seen}
 use Rattle.plan_walk.specs.declared.walk.Walked.{Walked}
 use Rattle.plan_walk.specs.declared.walk.Walked.TheVariants.{Whole, Stopped, Memory}
 use Rattle.derby.specs.declared.ending.Ending.{Ending}
@@ -12,10 +15,17 @@ use Rattle.derby.specs.declared.ending.Ending.TheVariants.{Usage, Unready, Cut, 
 use Rattle.derby.specs.declared.ending.InputError.TheVariants.{Starved}
 use Rattle.derby.specs.Inputs.{AreInputs}
 
--- THE JOURNAL of scripts is legal for them, over no tables, and what a walk by a plan's lines leaves
+-- THE JOURNAL of scripts is legal for them, over no tables; it is what a walk by a plan's lines leaves, and what closing the engine then
+-- takes back, so that no transaction is open
 pub record IsJournal (scripts : List (List ℕ)) (lines : List StepLine) (how : Walked) (journal : Journal) : Type 0 where
   pub legal : IsLegal no_tables scripts journal.entries journal.locks
-  pub walk : IsWalk scripts lines [] journal.entries how
+  -- the store as it was opened, of which nobody holds a page, and what was seen behind the walk
+  pub store : View
+  pub empty : IsEmptyStore store
+  pub walked : Seen
+  pub walk : IsWalk scripts lines (seen [] store (λ c. 0)) walked how
+  pub ends : Ends walked.entries journal.entries
+  pub rest : AllAtRest (length scripts) journal.entries
 
 -- THE JOURNAL OF A RUN: that of its inputs
 pub record IsRunOf (told : List ℕ → Option (List ℕ)) (plan : List ℕ) (names : List (List ℕ)) (how : Walked) (journal : Journal) : Type 0 where

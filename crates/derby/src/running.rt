@@ -6,6 +6,7 @@ ghost use Rattle.derby.specs.Running.{EndsBy, NotStopped, RunIf};
 
 use crate::ending::{Ending, InputError};
 use crate::inputs::Inputs;
+use engine_close::close::close;
 use list_store::lists::ListStore;
 use plan_walk::walk::{Walked, walk};
 use session_engine::engine::Engine;
@@ -43,7 +44,7 @@ fn ending(walked: Walked) -> Ending
     }
 }
 
-/// Opens a connection for each script, and walks them by the plan.
+/// Opens a connection for each script, walks them by the plan, and closes the engine.
 pub(crate) fn run(alloc: Global, inputs: Inputs) -> Went
     requires { AreReady inputs }
     ensures { RunIf result.ending inputs.scripts inputs.plan.lines result.journal }
@@ -54,9 +55,9 @@ pub(crate) fn run(alloc: Global, inputs: Inputs) -> Went
         return unready(InputError::Starved);
     };
     let walked = walk(&mut engine, &plan);
-    engine.law();
+    let closed = close(engine);
     Went {
         ending: ending(walked),
-        journal: Some(engine.into_journal()),
+        journal: Some(closed.journal),
     }
 }

@@ -1,8 +1,8 @@
 //! Lines are walked, one after another.
 
-ghost use Rattle.std.specs.Prelude.{◌≡◌, ◌≤◌, ◌<◌, ◌^◌, IfSome, None, length};
+ghost use Rattle.std.specs.Prelude.{◌≡◌, ℕ, ◌≤◌, ◌<◌, ◌^◌, IfSome, None, length};
 ghost use Rattle.session_engine.specs.Stepped.{HasStopped, stop_after};
-ghost use Rattle.plan_walk.specs.Walk.{HasCause, IsLine, IsStep, IsWalk, halt_of, pauses, stop_behind, stop_left};
+ghost use Rattle.plan_walk.specs.Walk.{AreFew, HasCause, IsLine, IsStep, IsWalk, Leaves, halt_of, pauses, seen, stop_behind, stop_left};
 
 use dby_types::number::ConnNo;
 use session_engine::engine::Engine;
@@ -33,14 +33,17 @@ fn make<S: RowStore + Drop>(engine: &mut Engine<S>, connection: usize) -> Step
     requires known { connection ≤ length engine.old.0 }
     requires small { length engine.old.0 < 2 ^ 32 }
     ensures same { engine.new.0 ≡ engine.old.0 }
-    ensures step { IsStep engine.old.0 connection engine.old.1 engine.new.1 result }
+    ensures step { (ways : ℕ → ℕ) → AreFew ways engine.old.5 (S.view engine.old.3) → Leaves (λ new. IsStep engine.old.0 connection (seen engine.old.1 (S.view engine.old.3) ways) new result) engine.new.1 engine.new.5 (S.view engine.new.3) }
     ensures stops { engine.new.4 ≡ stop_after result engine.old.4 }
     ensures cause { engine.old.4 ≡ None → HasStopped result (S.view engine.new.3) }
 {
+    engine.law();
     if connection == 0 {
         engine.daemon()
     } else {
-        engine.step(ConnNo(connection as u32))
+        let step = engine.step(ConnNo(connection as u32));
+        engine.law();
+        step
     }
 }
 
@@ -49,7 +52,7 @@ fn walk_line<S: RowStore + Drop>(engine: &mut Engine<S>, line: StepLine) -> Opti
     requires known { line.connection ≤ length engine.old.0 }
     requires small { length engine.old.0 < 2 ^ 32 }
     ensures same { engine.new.0 ≡ engine.old.0 }
-    ensures line { IsLine engine.old.0 line engine.old.1 engine.new.1 result }
+    ensures line { (ways : ℕ → ℕ) → AreFew ways engine.old.5 (S.view engine.old.3) → Leaves (λ new. IsLine engine.old.0 line (seen engine.old.1 (S.view engine.old.3) ways) new result) engine.new.1 engine.new.5 (S.view engine.new.3) }
     ensures stops { engine.new.4 ≡ stop_behind result engine.old.4 }
     ensures cause { engine.old.4 ≡ None → IfSome result (λ answer. HasStopped answer (S.view engine.new.3)) }
 {
@@ -78,7 +81,7 @@ pub fn walk<S: RowStore + Drop>(engine: &mut Engine<S>, plan: &Plan) -> Walked
     requires known { plan.now.scripts ≡ length engine.old.0 }
     requires small { length engine.old.0 < 2 ^ 32 }
     ensures same { engine.new.0 ≡ engine.old.0 }
-    ensures walk { IsWalk engine.old.0 plan.now.lines engine.old.1 engine.new.1 result }
+    ensures walk { (ways : ℕ → ℕ) → AreFew ways engine.old.5 (S.view engine.old.3) → Leaves (λ new. IsWalk engine.old.0 plan.now.lines (seen engine.old.1 (S.view engine.old.3) ways) new result) engine.new.1 engine.new.5 (S.view engine.new.3) }
     ensures stops { engine.new.4 ≡ stop_left result engine.old.4 }
     ensures cause { engine.old.4 ≡ None → HasCause result (S.view engine.new.3) }
 {

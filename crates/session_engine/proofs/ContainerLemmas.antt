@@ -23,7 +23,7 @@ use Rattle.session_engine.specs.declared.session.Session.{Session}
 use Rattle.session_engine.specs.Dictionary.{Named, Among, definition_of}
 use Rattle.session_engine.specs.Listed.{Cataloged}
 use Rattle.session_engine.specs.State.{State, Holds, Busy, Refuses, RefusesFor, Stands, Mirrors, Reflects, IsNewContainer, AreNew, MakesAlone, PhaseHolds, WaitsNot, IsOpened, world_of, txn_of}
-use Rattle.session_engine.proofs.MoveLemmas.{moved}
+use Rattle.session_engine.proofs.MoveLemmas.{moved, same_others}
 use Rattle.session_engine.proofs.StepLemmas.{own_session, phase_at, stepping}
 
 -- some row id
@@ -130,7 +130,7 @@ unmakes st last k c r v' rest lt at busy quiet opened items content actors limit
       idle = busy.idle;
     } in
     moved st last a k r v' (stepping st last w k r r v' lt at busy quiet
-    (λ t ne. record { txn = refl; reads = λ table rid h. h; writes = λ table rid h. h; committed = λ table rid h. refl; current = λ table rid h. refl; whole = λ h table rid. (refl, refl); given = λ h. refl })
+    (λ t ne. same_others w st.lock t)
     (record {
       txns = λ t ne. ap (λ (d : Content). d.changes t) content ∙ at_other st.view.content.changes a (Some rest) t ne;
       actors = actors;

@@ -41,7 +41,7 @@ use Rattle.session_engine.specs.Listed.{Cataloged, left_named}
 use Rattle.session_engine.specs.State.{MakesAlone, State, Holds, SessionHolds, Busy, Refuses, RefusesFor, Stands, Mirrors, Reflects, PhaseHolds, IsStage, WaitsNot, HaveSlots, world_of, txn_of}
 use Rattle.session_engine.proofs.ListedLemmas.{quiet_catalog, still_catalog}
 use Rattle.session_engine.proofs.ListingLemmas.{undone_catalog}
-use Rattle.session_engine.proofs.MoveLemmas.{store_holds, entered, entered_with, moved}
+use Rattle.session_engine.proofs.MoveLemmas.{store_holds, same_others, entered, entered_with, moved}
 use Rattle.session_engine.proofs.EventLemmas.{gone, served}
 use Rattle.session_engine.proofs.StepLemmas.{own_session, phase_at, asks_nothing, stepping, stepping_with}
 
@@ -133,7 +133,7 @@ pub beside_place : (l : Locks) (a t table : ℕ) (rid : RowId) → Fits l → l.
 beside_place l a t table rid fits x ne b r reads e k =
     ne (sym (fits.alone a t table rid x (subst (λ y. l.reads t table y ≡ true) k (subst (λ y. l.reads t y r ≡ true) e reads))))
 
-each_slots : (v v' : View) (ms : List Made) → ((b : ℕ) (r : RowId) → v.content.heaps b r ≢ None → v'.content.heaps b r ≢ None) → HaveSlots v ms → HaveSlots v' ms
+pub each_slots : (v v' : View) (ms : List Made) → ((b : ℕ) (r : RowId) → v.content.heaps b r ≢ None → v'.content.heaps b r ≢ None) → HaveSlots v ms → HaveSlots v' ms
 each_slots v v' [] f h = tt
 each_slots v v' (m ∷ ms) f h = (f m.change.table m.change.rid h.0, each_slots v v' ms f h.1)
 
@@ -497,7 +497,7 @@ own_pages st last k r v' lt at busy quiet content actors limit phase ok =
     let w = world_of st.es in
     let mine = own_session st last k r lt at ok in
     moved st last (txn_of r) k r v' (stepping st last w k r r v' lt at busy quiet
-    (λ t ne. record { txn = refl; reads = λ table rid h. h; writes = λ table rid h. h; committed = λ table rid h. refl; current = λ table rid h. refl; whole = λ h table rid. (refl, refl); given = λ h. refl })
+    (λ t ne. same_others w st.lock t)
     (store_holds (locks_of st.lock.grants) (txn_of r) (k + 1) st.view v' content actors limit) (λ i ne. refl)
     (record { begun = mine.begun; level = mine.level; automatic = mine.automatic; closed = mine.closed; spans = mine.spans; phase = phase })
     (inl refl) refl (omega arith) ok.last_is
@@ -578,7 +578,7 @@ gives_up st last k r lt at is ok =
     let busy = p.0 in
     let rests : (w.txns (txn_of r)).stage ≡ resting = subst (λ q. IsStage q (w.txns (txn_of r)).stage) is busy.stage in
     moved st last (txn_of r) k s' st.view (stepping st last w k r s' st.view lt at busy p.1
-    (λ t ne. record { txn = refl; reads = λ table rid h. h; writes = λ table rid h. h; committed = λ table rid h. refl; current = λ table rid h. refl; whole = λ h table rid. (refl, refl); given = λ h. refl })
+    (λ t ne. same_others w st.lock t)
     (store_holds (locks_of st.lock.grants) (txn_of r) (k + 1) st.view st.view refl (λ b ne. refl) refl) (λ i ne. refl)
     (record {
       begun = mine.begun;

@@ -26,6 +26,7 @@ use Rattle.session_engine.specs.declared.session.Session.{Session}
 use Rattle.session_engine.specs.Dictionary.{Named, named_of}
 use Rattle.session_engine.specs.Filling.{Moves, Pops}
 use Rattle.session_engine.specs.Engine.{EngineHolds, state as state_of}
+use Rattle.session_engine.proofs.SpentLemmas.{spent_kept, stays_of}
 use Rattle.session_engine.proofs.ColumnLemmas.{stored_one}
 use Rattle.session_engine.proofs.RoomLemmas.{room_after}
 use Rattle.lock_manager.specs.declared.table.LockTable.{LockTable}
@@ -191,16 +192,17 @@ fill_spent st last k r fill why v' h m spent = fill_fails st last k r fill r.mad
 
 -- THE ENGINE, whole, with the dictionary behind the step
 pub engine_listing : {Z : Type 0} (entries entries' : Vec Entry Z) (events : Vec Locked Z) (locks : LockTable) (ss : List Session) (v v' : View) (named named' : List Named) (last owed owed' owed_events k : ℕ) (r s' : Session)
-    → EngineHolds entries events locks ss v named last owed owed_events → k < length ss → r ≡ get_or ss k r → owed' + entries_of r ≡ owed + entries_of s' → releases_of s' ≡ releases_of r → vec_len entries' + owed' ≤ vec_capacity entries'
+    → EngineHolds entries events locks ss v named last owed owed_events → k < length ss → r ≡ get_or ss k r → stays_of s' ≡ stays_of r → owed' + entries_of r ≡ owed + entries_of s' → releases_of s' ≡ releases_of r → vec_len entries' + owed' ≤ vec_capacity entries'
     → Holds (state_of entries' events locks (set ss k s') v' named') last → EngineHolds entries' events locks (set ss k s') v' named' last owed' owed_events
-engine_listing entries entries' events locks ss v v' named named' last owed owed' owed_events k r s' h lt at more same fit holds = record {
+engine_listing entries entries' events locks ss v v' named named' last owed owed' owed_events k r s' h lt at stays more same fit holds = record {
   holds = holds;
   room = room_after entries entries' events events ss (lock locks) (lock locks) owed owed_events owed' owed_events k r s' h.room lt at more (omega (arith, same)) fit h.room.events_fit;
   woken = h.woken;
+  spent = spent_kept ss k r s' lt at (ap (λ x. x.0) stays) (ap (λ x. x.1) stays) (ap (λ x. x.2) stays) h.spent;
 }
 
 -- .. and as it was
 pub engine_with : {Z : Type 0} (entries entries' : Vec Entry Z) (events : Vec Locked Z) (locks : LockTable) (ss : List Session) (v v' : View) (named : List Named) (last owed owed' owed_events k : ℕ) (r s' : Session)
-    → EngineHolds entries events locks ss v named last owed owed_events → k < length ss → r ≡ get_or ss k r → owed' + entries_of r ≡ owed + entries_of s' → releases_of s' ≡ releases_of r → vec_len entries' + owed' ≤ vec_capacity entries'
+    → EngineHolds entries events locks ss v named last owed owed_events → k < length ss → r ≡ get_or ss k r → stays_of s' ≡ stays_of r → owed' + entries_of r ≡ owed + entries_of s' → releases_of s' ≡ releases_of r → vec_len entries' + owed' ≤ vec_capacity entries'
     → Holds (state_of entries' events locks (set ss k s') v' named) last → EngineHolds entries' events locks (set ss k s') v' named last owed' owed_events
 engine_with entries entries' events locks ss v v' named = engine_listing entries entries' events locks ss v v' named named

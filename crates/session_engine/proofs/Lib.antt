@@ -28,6 +28,8 @@ pub mod FillLemmas
 pub mod PutLemmas
 pub mod InsertLemmas
 pub mod KeptLemmas
+pub mod PaceLemmas
+pub mod SpentLemmas
 pub mod RunLemmas
 pub mod ContainerLemmas
 pub mod SmallLemmas

@@ -43,7 +43,7 @@ use Rattle.session_engine.proofs.CatalogLemmas.{table_row-number}
 use Rattle.session_engine.proofs.ContainerLemmas.{catalog_alone, sole_view}
 use Rattle.session_engine.proofs.EndLemmas.{busy_pages, refuses_still}
 use Rattle.session_engine.proofs.FillLemmas.{open_there, spent_shows}
-use Rattle.session_engine.proofs.MoveLemmas.{moved}
+use Rattle.session_engine.proofs.MoveLemmas.{moved, same_others}
 use Rattle.session_engine.proofs.SmallLemmas.{IsSmallColumn, small_create_of, short_rows}
 use Rattle.session_engine.proofs.StableLemmas.{writer_reads}
 use Rattle.session_engine.proofs.StepLemmas.{own_session, phase_at, stepping}
@@ -271,7 +271,7 @@ grows_container st last k n r phase' plan' v' columns' lt at busy quiet opened a
     } in
     let c = ok.cataloged in
     moved st last a k s' v' (stepping st last w k r s' v' lt at busy quiet
-    (λ t ne. record { txn = refl; reads = λ table rid h. h; writes = λ table rid h. h; committed = λ table rid h. refl; current = λ table rid h. refl; whole = λ h table rid. (refl, refl); given = λ h. refl })
+    (λ t ne. same_others w st.lock t)
     (record {
       txns = λ t ne. ap (λ (d : Content). d.changes t) content ∙ at_other st.view.content.changes a (Some (Created n ∷ old)) t ne;
       actors = actors;

@@ -95,6 +95,10 @@ purpose_same (Some (ordered.Form (CreateTable name columns))) f g (First n i) m 
 purpose_same (Some (ordered.Form (Insert name tuples))) f g (First n i) m e h = h
 purpose_same (Some (ordered.Form (Select name))) f g (First n i) m e h = h
 
+-- where nothing moves
+pub same_others : (w : World) (l : Lock) (t : ℕ) → Others t w (locks_of l.grants) w (locks_of l.grants)
+same_others w l t = record { txn = refl; reads = λ table rid h. h; writes = λ table rid h. h; committed = λ table rid h. refl; current = λ table rid h. refl; whole = λ h table rid. (refl, refl); given = λ h. refl }
+
 -- a request of another stays due
 pub waits_kept : (w : World) (l : Lock) (w' : World) (l' : Lock) (r : Request) → Others r.txn.0 w (locks_of l.grants) w' (locks_of l'.grants) → Waits w l r → Waits w' l' r
 waits_kept w l w' l' r o h = record {

@@ -1,6 +1,6 @@
 -- The next row of a CREATE TABLE, whether there was memory for it or not.
-use Rattle.std.proofs.Common.{◌≡◌, ◌<◌, ℕ, zero, suc, List, [], ◌∷◌, length, get_or, refl, arith}
-use Rattle.std.specs.Prelude.{Some, slice_get, Result, Ok, Err, IfOk}
+use Rattle.std.proofs.Common.{◌≡◌, List}
+use Rattle.std.specs.Prelude.{Some, Result, Ok, Err, IfOk}
 use Rattle.std.specs.declared.alloc.AllocError.{AllocError}
 use Rattle.dby_types.specs.declared.value.Value.{Value}
 use Rattle.journal_model.specs.Catalog.{column_row}
@@ -10,9 +10,3 @@ use Rattle.session_engine.specs.Listing.{IsAtColumn, IsLaid}
 pub laid : (old new : Make) (r : Result (List Value) AllocError) → (at : IsAtColumn old new) → IfOk r (λ row. row ≡ column_row old.def.number old.done at.column) → IsLaid old new (Some r)
 laid old new (Ok row) at h = (at, h)
 laid old new (Err e) at h = at
-
--- an item by its place
-pub get_there : {X : Type 0} (xs : List X) (k : ℕ) (d : X) → k < length xs → slice_get xs k ≡ Some (get_or xs k d)
-get_there [] k d lt = absurd (omega arith)
-get_there (x ∷ xs) zero d lt = refl
-get_there (x ∷ xs) (suc k) d lt = get_there xs k d (omega arith)

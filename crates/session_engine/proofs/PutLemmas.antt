@@ -35,7 +35,7 @@ use Rattle.session_engine.specs.Filling.{inserted}
 use Rattle.session_engine.specs.Listed.{Cataloged, Lists}
 use Rattle.session_engine.specs.State.{MakesAlone, State, Holds, SessionHolds, Busy, Fills, Works, Reflects, Mirrors, HaveSlots, IsStage, PhaseHolds, world_of, txn_of}
 use Rattle.session_engine.proofs.ColumnLemmas.{row_fits, fits_more}
-use Rattle.session_engine.proofs.EndLemmas.{heap_elsewhere, beside_place}
+use Rattle.session_engine.proofs.EndLemmas.{heap_elsewhere, beside_place, each_slots}
 use Rattle.session_engine.proofs.FillLemmas.{Filling, fill_at, fill_catalog}
 use Rattle.session_engine.proofs.ListingLemmas.{user_catalog, lists_own}
 use Rattle.session_engine.proofs.MoveLemmas.{entered_with}
@@ -72,10 +72,6 @@ put_there heaps table rid s none =
     let tb : (table == table) ≡ true = grind (arith, nat_tests) in
     let here : is_same_rid rid rid ≡ true = grind (arith, nat_tests) in
     (let e : Some s ≡ None = sym (ap (λ x. if x then (if is_same_rid rid rid then Some s else heaps table rid) else heaps table rid) tb ∙ ap (λ x. if x then Some s else heaps table rid) here) ∙ none in cc)
-
-each_stays : (v v' : View) (ms : List Made) → ((b : ℕ) (q : RowId) → v.content.heaps b q ≢ None → v'.content.heaps b q ≢ None) → HaveSlots v ms → HaveSlots v' ms
-each_stays v v' [] f h = tt
-each_stays v v' (m ∷ ms) f h = (f m.change.table m.change.rid h.0, each_stays v v' ms f h.1)
 
 -- nobody else has changed the place
 nobody : (l : Locks) (a u table : ℕ) (rid : RowId) (ms : List Made) → Fits l → l.writes a table rid ≡ true → u ≢ a → Written l u ms → Each (λ m. m.change.table ≡ table → m.change.rid ≡ rid → ⊥) ms
@@ -145,7 +141,7 @@ puts_row st last k did n r p made rid row v' named' lt at is pushed here none co
       reflects = subst (λ (d : Content). Reflects r.opened (d.changes a) (w'.txns a).changes) (sym content) (subst (λ (y : Txn). Reflects r.opened ((with_slot st.view.content a n rid (slot_of row false)).changes a) y.changes) (sym x) changed);
       slots = subst (λ (y : Txn). HaveSlots v' y.changes) (sym x) (
         (λ gone. put_there st.view.content.heaps n rid (slot_of row false) (sym (ap (λ (d : Content). d.heaps n rid) content) ∙ gone)),
-        each_stays st.view v' (w.txns a).changes (λ b y had gone. put_stays st.view.content.heaps n rid (slot_of row false) b y had (sym (ap (λ (d : Content). d.heaps b y) content) ∙ gone)) busy.slots,
+        each_slots st.view v' (w.txns a).changes (λ b y had gone. put_stays st.view.content.heaps n rid (slot_of row false) b y had (sym (ap (λ (d : Content). d.heaps b y) content) ∙ gone)) busy.slots,
       );
       containers = subst (λ (y : Txn). MakesAlone w.committed st.lock a (changes_in (v'.content.changes a)) y.changes) (sym x)
           (subst (λ i. MakesAlone w.committed st.lock a i (m ∷ (w.txns a).changes)) (sym items) busy.containers);

@@ -34,6 +34,7 @@ use Rattle.session_engine.specs.declared.session.Session.{Session}
 use Rattle.session_engine.specs.Asking.{in_want}
 use Rattle.session_engine.specs.Dictionary.{Named, named_of}
 use Rattle.session_engine.specs.Engine.{EngineHolds, state}
+use Rattle.session_engine.proofs.SpentLemmas.{spent_kept}
 use Rattle.session_engine.specs.Follows.{Follows}
 use Rattle.session_engine.specs.Scanning.{IsScanned, IsWhere, Takes, passed, told_rows}
 use Rattle.session_engine.specs.State.{State, Holds, Busy, Scans, Works, IsOpened, IsStage, WaitsNot, PhaseHolds, ends_in, opens, world_of, txn_of}
@@ -287,6 +288,7 @@ scan_goes entries events locks ss v v' named last owed owed_events k r p h lt at
   holds = holds;
   room = room_after entries entries events events ss (lock locks) (lock locks) owed owed_events owed owed_events k r (record r { plan = p }) h.room lt at refl refl h.room.entries_fit h.room.events_fit;
   woken = h.woken;
+  spent = spent_kept ss k r (record r { plan = p }) lt at refl refl refl h.spent;
 }
 
 pub scan_fails : {Z : Type 0} (entries : Vec Entry Z) (events : Vec Locked Z) (locks : LockTable) (ss : List Session) (v v' : View) (named : List Named) (last owed owed_events k : ℕ) (r s' : Session)
@@ -301,6 +303,7 @@ scan_fails entries events locks ss v v' named last owed owed_events k r s' h lt 
       holds = holds;
       room = room_after entries entries events events ss (lock locks) (lock locks) owed owed_events (owed - 1) owed_events k r (in_want r) h.room lt at (omega (arith, needs, one)) (omega (arith, opened)) (omega (arith, fit)) h.room.events_fit;
       woken = h.woken;
+      spent = spent_kept ss k r (in_want r) lt at refl refl refl h.spent;
     })
 
 pub working_owes : {Z : Type 0} (entries : Vec Entry Z) (events : Vec Locked Z) (locks : LockTable) (ss : List Session) (v : View) (named : List Named) (last owed owed_events k : ℕ) (r : Session)

@@ -34,10 +34,11 @@ use Rattle.session_engine.specs.declared.session.Session.{Session}
 use Rattle.session_engine.specs.Dictionary.{Named}
 use Rattle.session_engine.specs.Listed.{Cataloged}
 use Rattle.session_engine.specs.Engine.{EngineHolds, state}
+use Rattle.session_engine.proofs.SpentLemmas.{spent_kept}
 use Rattle.session_engine.specs.State.{MakesAlone, has_made, State, Holds, SessionHolds, Busy, HaveSlots, Mirrors, Reflects, PhaseHolds, IsStage, WaitsNot, world_of, txn_of}
 use Rattle.session_engine.proofs.ListedLemmas.{quiet_catalog, still_catalog}
 use Rattle.session_engine.proofs.QueueLemmas.{none_asks}
-use Rattle.session_engine.proofs.MoveLemmas.{Stepping, StoreMoves, store_holds, lock_same, entered, moved}
+use Rattle.session_engine.proofs.MoveLemmas.{Stepping, StoreMoves, store_holds, lock_same, same_others, entered, moved}
 use Rattle.session_engine.proofs.RoomLemmas.{room_after}
 use Rattle.session_engine.proofs.StableLemmas.{session_kept}
 
@@ -193,7 +194,7 @@ still_store st last v' content actors limit ok = record {
   alone = ok.alone;
   waits = ok.waits;
   each = λ i d lt. session_kept (world_of st.es) st.lock st.view (world_of st.es) st.lock v' last last (i + 1) (get_or st.ss i d) ok.shared refl (λ b. record {
-    others = record { txn = refl; reads = λ table rid h. h; writes = λ table rid h. h; committed = λ table rid h. refl; current = λ table rid h. refl; whole = λ h table rid. (refl, refl); given = λ h. refl };
+    others = same_others (world_of st.es) st.lock (txn_of (get_or st.ss i d));
     locks = lock_same (get_or st.ss i d).txn st.lock;
     changes = ap (λ (x : Content). x.changes (txn_of (get_or st.ss i d))) content;
     actor = actors (i + 1);
@@ -224,7 +225,7 @@ forced st last k r v' lt at is content actors limit ok =
     let s' : Session = record r { phase = Acknowledging } in
     let stage : (w.txns (txn_of r)).stage ≡ settled = subst (λ q. IsStage q (w.txns (txn_of r)).stage) is busy.stage in
     moved st last (txn_of r) k s' v' (stepping st last w k r s' v' lt at busy p.1
-    (λ t ne. record { txn = refl; reads = λ table rid h. h; writes = λ table rid h. h; committed = λ table rid h. refl; current = λ table rid h. refl; whole = λ h table rid. (refl, refl); given = λ h. refl })
+    (λ t ne. same_others w st.lock t)
     (store_holds (locks_of st.lock.grants) (txn_of r) (k + 1) st.view v' content (λ b ne. actors b) limit) (λ i ne. refl)
     (record {
       begun = mine.begun;
@@ -285,6 +286,7 @@ still_engine entries entries' events events' locks ss v v' named last owed owed_
           (still_store (state entries events locks ss v named) last v' content actors limit h.holds)));
       room = room_after entries entries' events events' ss (lock locks) (lock locks) owed owed_events owed owed_events k r r h.room lt at refl refl fit fit';
       woken = h.woken;
+      spent = spent_kept ss k r r lt at refl refl refl h.spent;
     }
   where
     set_same : (ss : List Session) (k : ℕ) (r : Session) → k < length ss → r ≡ get_or ss k r → set ss k r ≡ ss

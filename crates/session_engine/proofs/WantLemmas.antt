@@ -6,6 +6,7 @@ use Rattle.std.proofs.lemmas.Bool.{both_ways, cases_Bool}
 use Rattle.std.proofs.lemmas.List.Elements.{All-filter}
 use Rattle.dby_types.specs.declared.number.RowId.{RowId}
 use Rattle.dby_types.specs.declared.number.TxnNo.{TxnNo}
+use Rattle.lock_modes.specs.declared.cycle.Edge.{Edge}
 use Rattle.lock_modes.specs.declared.entry.Request.{Request}
 use Rattle.lock_modes.specs.declared.event.LockEvent.TheVariants.{Granted, Queued}
 use Rattle.lock_modes.specs.declared.mode.Mode.{Mode}
@@ -16,10 +17,10 @@ use Rattle.lock_modes.specs.Lock.{Lock, Grants, queue, request, apply, has_grant
 use Rattle.lock_modes.specs.Modes.{has_mode}
 use Rattle.lock_modes.specs.Names.{same_txn, same_name}
 use Rattle.lock_modes.specs.Proper.{IsRefused, MayHave}
-use Rattle.lock_modes.specs.Waits.{waiting, ahead, blocks_wait, IsBlocked, AllBlocked, IsSettled}
+use Rattle.lock_modes.specs.Waits.{waits_for, waiting, ahead, blocks_wait, IsBlocked, AllBlocked, IsSettled}
 use Rattle.lock_modes.proofs.NamesLemmas.{txn_refl}
 use Rattle.lock_modes.proofs.ApartLemmas.{stays}
-use Rattle.lock_manager.specs.Blocking.{IsUnblocked}
+use Rattle.lock_manager.specs.Blocking.{IsBlocker, IsUnblocked}
 use Rattle.store_api.specs.View.{View, Content, live, changes_in}
 use Rattle.table_model.specs.Tables.{Each}
 use Rattle.journal_model.specs.declared.journal.Refusal.{Refusal}
@@ -37,12 +38,15 @@ use Rattle.session_engine.specs.declared.session.Fill.{Fill}
 use Rattle.session_engine.specs.declared.session.Session.{Session}
 use Rattle.session_engine.specs.Asking.{wanted, claimed, behind, in_want}
 use Rattle.session_engine.specs.Scanning.{IsScanned, IsUnread, IsWhere}
+use Rattle.session_engine.specs.Blocking.{HasWhy}
+use Rattle.session_engine.specs.declared.step.Step.TheVariants.{Blocked}
+use Rattle.session_engine.specs.declared.step.Why.TheVariants.{Lock as InTheWay}
 use Rattle.session_engine.specs.State.{State, Holds, SessionHolds, Busy, Asks, Selects, Waiting, Claims, Works, IsPromised, IsUnchanged, IsMarked, IsOpened, IsStage, Mirrors, PhaseHolds, IsShown, ends_in, opens, world_of, txn_of}
 use Rattle.session_engine.proofs.AskLemmas.{granted, queued, relies_on_catalog, writes_catalog}
 use Rattle.session_engine.proofs.BeginLemmas.{absent}
 use Rattle.session_engine.proofs.EventLemmas.{has_granted}
 use Rattle.session_engine.proofs.ListedLemmas.{still_catalog}
-use Rattle.session_engine.proofs.MoveLemmas.{moved, store_holds}
+use Rattle.session_engine.proofs.MoveLemmas.{moved, same_others, store_holds}
 use Rattle.session_engine.proofs.QueueLemmas.{asks_of, find_here, find_later, none_asks, queue_granted}
 use Rattle.session_engine.proofs.ScanLemmas.{nothing_read}
 use Rattle.session_engine.proofs.StartLemmas.{mirrored}
@@ -360,6 +364,13 @@ pub wants_at : (st : State) (last k : ℕ) (r : Session) (n : LockName) (m : Mod
     → Wanting (world_of st.es) st.lock st.view last (k + 1) r n m
 wants_at st last k r n m lt at e ok = wanting r.phase (world_of st.es) st.lock st.view last (k + 1) r n m refl (own_session st last k r lt at ok).phase e
 
+-- it waits for who is in its way
+pub why_queued : (st : State) (last k : ℕ) (r : Session) (n : LockName) (m : Mode) (e : Edge) → k < length st.ss → r ≡ get_or st.ss k r → wanted r.phase r.order r.plan ≡ Some (n, m) → IsBlocker st.lock r.txn None e → Holds st last
+    → HasWhy (k + 1) (Blocked (InTheWay e.holder)) st.es st.ls st.view
+why_queued st last k r n m e lt at asks blocks ok =
+    let h = wants_at st last k r n m lt at asks ok in
+    (r.txn, h.busy.mine, subst (λ (l : Lock). waits_for l r.txn e.holder ≡ true) (sym ok.fold) (subst (λ (t : TxnNo). waits_for st.lock t e.holder ≡ true) blocks.waiter blocks.edge.blocked))
+
 -- the other parts of a session
 own_part : (w : World) (l l' : Lock) (v v' : View) (last c : ℕ) (r s' : Session) → s' ≡ record r { queued = s'.queued; phase = s'.phase; plan = s'.plan; order = s'.order; made = s'.made } → SessionHolds w l v last c r → PhaseHolds s'.phase w l' v' last c s' → SessionHolds w l' v' last c s'
 own_part w l l' v v' last c r s' is mine phase = record {
@@ -399,9 +410,6 @@ asks_and_waits st last place k r n m v' lt at e quiet here refused content actor
     (own_part w st.lock l' st.view v' last (k + 1) r (record r { queued = true }) refl (own_session st last k r lt at ok)
     (h.waits_on l' v' (λ a b x. stays st.lock (Queued r.txn n m) r.txn a b refl x) content (queued_waits (has_grant st.lock.grants r.txn n) st.lock r.txn n m idle)))
     content actors limit ok
-
-same_others : (w : World) (l : Lock) (t : ℕ) → Others t w (locks_of l.grants) w (locks_of l.grants)
-same_others w l t = record { txn = refl; reads = λ table rid h. h; writes = λ table rid h. h; committed = λ table rid h. refl; current = λ table rid h. refl; whole = λ h table rid. (refl, refl); given = λ h. refl }
 
 -- a step in which nothing but the connection moves
 pub own_move : (st : State) (last k : ℕ) (r s' : Session) → k < length st.ss → r ≡ get_or st.ss k r → Busy (world_of st.es) st.lock st.view last (k + 1) r → waiting st.lock r.txn ≡ None

@@ -1,5 +1,5 @@
 -- What a statement begins with.
-use Rattle.std.specs.Prelude.{◌≡◌, ◌+◌, ◌<◌, ◌≤◌, ◌^◌, ℕ, List, [], Vec, vec_len, vec_capacity, Bool, true, false, Option, Some, None, slice_get, if◌then◌else◌}
+use Rattle.std.specs.Prelude.{◌≡◌, ◌+◌, ◌<◌, ◌≤◌, ◌^◌, ℕ, List, [], Vec, vec_len, vec_capacity, Bool, true, false, Option, Some, None, length, slice_get, if◌then◌else◌}
 use Rattle.dby_types.specs.declared.number.Level.{Level}
 use Rattle.dby_types.specs.declared.number.TxnNo.{TxnNo}
 use Rattle.dby_types.specs.declared.state.SqlState.TheVariants.{NotBuilt, LogSpent}
@@ -24,7 +24,7 @@ pub record IsRead (a : Asked) : Type 0 where
 
 -- the next statement of a connection's script
 abbrev pub IsNext : Session → Option Asked → Type 0
-IsNext s None = slice_get (statements_of s.script) s.begun ≡ None
+IsNext s None = length s.spans ≤ s.begun
 IsNext s (Some a) = (slice_get (statements_of s.script) s.begun ≡ Some a.text) × IsRead a × (s.begun + 1 < 2 ^ 64)
 
 -- the connection once its statement has begun in this transaction; one that is too long is refused

@@ -7,8 +7,11 @@ use Rattle.dby_types.specs.declared.number.TxnNo.{TxnNo}
 use Rattle.journal_model.specs.declared.journal.Entry.{Entry}
 use Rattle.journal_model.specs.declared.journal.Entry.TheVariants.{Answered}
 use Rattle.store_api.specs.declared.slot.Item.TheVariants.{Created}
-use Rattle.store_api.specs.Effects.{with_item}
+use Rattle.store_api.specs.Effects.{GoesOn, with_item}
 use Rattle.store_api.specs.View.{View, at_number}
+use Rattle.session_engine.specs.Pacing.{next_of_plan}
+use Rattle.session_engine.specs.declared.next.Build.TheVariants.{Make as ToMake}
+use Rattle.session_engine.specs.declared.next.Work.TheVariants.{Build as ToBuild}
 use Rattle.session_engine.specs.declared.creating.Contained.{Contained}
 use Rattle.session_engine.specs.declared.creating.Contained.TheVariants as contained
 use Rattle.session_engine.specs.declared.session.Make.{Make}
@@ -42,7 +45,7 @@ pub record TakesUnmade (old new : Session) (make : Make) : Type 0 where
   pub after : new ≡ record old { plan = Nothing }
 
 abbrev pub IsTaken : Session → Session → Option Make → Type 0
-IsTaken old new None = new ≡ old
+IsTaken old new None = next_of_plan old.plan ≢ ToBuild ToMake
 IsTaken old new (Some make) = TakesUnmade old new make
 
 -- it has its number
@@ -70,6 +73,11 @@ IsContained t make left old new contained.NoLog = (left ≡ make) × (new.conten
 -- a call that failed made none, or one that isn't described
 abbrev pub IsBare : ℕ → Make → Make → View → View → Type 0
 IsBare t make left old new = ((n : ℕ) × (left ≡ numbered make n)) × ((new.content ≡ old.content) ⊎ ((n : ℕ) × HasContainer t n old new))
+
+-- a making that is to be gone on with has turned once more
+abbrev pub TurnsIn : ℕ → View → View → Contained → Type 0
+TurnsIn a old new contained.Onward = GoesOn a old new
+TurnsIn a old new _ = Unit {0}
 
 -- the entry of a CREATE TABLE's answer
 abbrev pub told_done : TxnNo → ℕ → Entry

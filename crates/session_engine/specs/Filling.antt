@@ -6,10 +6,14 @@ use Rattle.dby_types.specs.declared.number.TxnNo.{TxnNo}
 use Rattle.dby_types.specs.declared.state.SqlState.{SqlState}
 use Rattle.dby_types.specs.declared.value.Value.{Value}
 use Rattle.device.specs.Counts.{Rises}
+use Rattle.store_api.specs.Effects.{GoesOn}
 use Rattle.store_api.specs.View.{View}
 use Rattle.journal_model.specs.declared.journal.Entry.{Entry}
 use Rattle.journal_model.specs.declared.journal.Entry.TheVariants.{Did, Answered}
 use Rattle.journal_model.specs.declared.journal.Refusal.TheVariants.{Sql}
+use Rattle.session_engine.specs.Pacing.{next_of_fill, next_of_plan}
+use Rattle.session_engine.specs.Scanning.{IsWithheld}
+use Rattle.session_engine.specs.declared.next.Work.TheVariants.{Fill as ToFill}
 use Rattle.session_engine.specs.declared.filling.Roomy.{Roomy}
 use Rattle.session_engine.specs.declared.filling.Roomy.TheVariants as roomy
 use Rattle.session_engine.specs.declared.session.Phase.TheVariants.{Refusing}
@@ -30,6 +34,12 @@ IsRoomy a table old new roomy.NoPages = Rises old.meters.no_pages new.meters.no_
 IsRoomy a table old new roomy.NoLog = Rises old.meters.no_log new.meters.no_log
 IsRoomy a table old new _ = Unit {0}
 
+-- a look for room that is to be made again has turned once more
+abbrev pub TurnsFor : ℕ → View → View → Roomy → Type 0
+TurnsFor a old new roomy.Onward = GoesOn a old new
+TurnsFor a old new (roomy.Held b) = IsWithheld a b old
+TurnsFor a old new _ = Unit {0}
+
 -- the entry of a row that was put, and that of an INSERT's answer
 abbrev pub inserted : TxnNo → ℕ → RowId → List Value → Entry
 inserted t table rid row = Did t table rid None (Some row)
@@ -48,7 +58,7 @@ pub record Pops (old new : Fill) (row : List Value) : Type 0 where
   pub rows : old.rows.items ≡ new.rows.items ++ row ∷ []
 
 abbrev pub IsPopped : Fill → Fill → Option (List Value) → Type 0
-IsPopped old new None = new ≡ old
+IsPopped old new None = next_of_fill old.rows.items old.has_room ≢ ToFill
 IsPopped old new (Some row) = Pops old new row
 
 -- the next row of an INSERT, taken out of its plan
@@ -61,5 +71,5 @@ pub record TakesRow (old new : Session) (number : ℕ) (row : List Value) : Type
   pub after : new ≡ record old { plan = Insert left }
 
 abbrev pub IsNextRow : Session → Session → Option (ℕ × List Value) → Type 0
-IsNextRow old new None = new ≡ old
+IsNextRow old new None = next_of_plan old.plan ≢ ToFill
 IsNextRow old new (Some p) = TakesRow old new p.0 p.1

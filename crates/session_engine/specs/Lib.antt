@@ -14,3 +14,6 @@ pub mod Stepped
 pub mod Creating
 pub mod Listed
 pub mod Listing
+pub mod Leaving
+pub mod Pacing
+pub mod Blocking

@@ -1,9 +1,12 @@
 -- The catalog rows of a new table: those of its columns in order, and then its own.
-use Rattle.std.specs.Prelude.{◌≡◌, ◌+◌, ℕ, List, Option, Some, None, Bool, true, false, ◌&&◌, length, nat_lt, slice_get, Result, Ok, Err, if◌then◌else◌}
+use Rattle.std.specs.Prelude.{◌≡◌, ◌≢◌, ◌+◌, ℕ, List, Option, Some, None, Bool, true, false, ◌&&◌, length, nat_lt, slice_get, Result, Ok, Err, if◌then◌else◌}
 use Rattle.std.specs.declared.alloc.AllocError.{AllocError}
 use Rattle.dby_types.specs.declared.definition.ColumnDef.{ColumnDef}
 use Rattle.dby_types.specs.declared.value.Value.{Value}
 use Rattle.journal_model.specs.Catalog.{table_row, column_row}
+use Rattle.session_engine.specs.Pacing.{next_of_make, next_of_plan}
+use Rattle.session_engine.specs.declared.next.Build.TheVariants.{Lay, List as ToList}
+use Rattle.session_engine.specs.declared.next.Work.TheVariants.{Build as ToBuild}
 use Rattle.session_engine.specs.declared.listing.Listing.{Listing}
 use Rattle.session_engine.specs.declared.session.Make.{Make}
 use Rattle.session_engine.specs.declared.session.Plan.TheVariants.{Create}
@@ -30,7 +33,7 @@ pub record IsAtColumn (old new : Make) : Type 0 where
   pub there : slice_get old.def.columns old.done ≡ Some column
 
 abbrev pub IsLaid : Make → Make → Option (Result (List Value) AllocError) → Type 0
-IsLaid old new None = new ≡ old
+IsLaid old new None = next_of_make old ≢ Lay
 IsLaid old new (Some (Err e)) = IsAtColumn old new
 IsLaid old new (Some (Ok row)) = (at : IsAtColumn old new) × (row ≡ column_row old.def.number old.done at.column)
 
@@ -46,7 +49,7 @@ pub record IsListing (make : Make) (listing : Listing) : Type 0 where
   pub defined : listing.defined ≡ record { number = make.def.number; columns = make.def.columns }
 
 abbrev pub IsListed : Make → Make → Option (Result Listing AllocError) → Type 0
-IsListed old new None = new ≡ old
+IsListed old new None = next_of_make old ≢ ToList
 IsListed old new (Some (Err e)) = IsAtTable old new
 IsListed old new (Some (Ok listing)) = IsAtTable old new × IsListing old listing
 
@@ -59,11 +62,11 @@ pub record TakesPlan (P : Make → Make → Type 0) (old new : Session) : Type 0
   pub does : P make left
 
 abbrev pub IsColumnToPut : Session → Session → Option (Result (List Value) AllocError) → Type 0
-IsColumnToPut old new None = new ≡ old
+IsColumnToPut old new None = next_of_plan old.plan ≢ ToBuild Lay
 IsColumnToPut old new (Some r) = TakesPlan (λ make left. IsLaid make left (Some r)) old new
 
 abbrev pub IsTableToPut : Session → Session → Option (Result Listing AllocError) → Type 0
-IsTableToPut old new None = new ≡ old
+IsTableToPut old new None = next_of_plan old.plan ≢ ToBuild ToList
 IsTableToPut old new (Some r) = TakesPlan (λ make left. IsListed make left (Some r)) old new
 
 -- all its rows are put

@@ -22,6 +22,7 @@ pub record IsNew (s : Session) : Type 0 where
   pub begun : s.begun ≡ 0
   pub level : s.level ≡ Cs
   pub automatic : s.automatic ≡ true
+  pub closed : s.closed ≡ false
   pub phase : s.phase ≡ Idle
   pub txn : s.txn ≡ record { 0 = 0 }
   pub opened : s.opened ≡ false

@@ -1,5 +1,5 @@
 -- What a scan has read of a table.
-use Rattle.std.specs.Prelude.{◌≡◌, ◌≤◌, ℕ, List, [], ◌∷◌, ◌++◌, Option, Some, None, false}
+use Rattle.std.specs.Prelude.{◌≡◌, ◌≢◌, ◌≤◌, ℕ, List, [], ◌∷◌, ◌++◌, Option, Some, None, true, false}
 use Rattle.dby_types.specs.declared.answer.Component.{Component}
 use Rattle.dby_types.specs.declared.answer.Answer.TheVariants.{Rows}
 use Rattle.dby_types.specs.declared.number.RowId.{RowId}
@@ -7,7 +7,8 @@ use Rattle.dby_types.specs.declared.number.TxnNo.{TxnNo}
 use Rattle.dby_types.specs.declared.value.Value.{Value}
 use Rattle.table_model.specs.Tables.{Each}
 use Rattle.store_api.specs.Order.{is_behind, IsFirstBehind}
-use Rattle.store_api.specs.View.{Heaps, live}
+use Rattle.store_api.specs.Effects.{GoesOn}
+use Rattle.store_api.specs.View.{View, Heaps, live}
 use Rattle.journal_model.specs.declared.journal.Entry.{Entry}
 use Rattle.journal_model.specs.declared.journal.Entry.TheVariants.{Answered}
 use Rattle.journal_model.specs.Levels.{times}
@@ -50,11 +51,27 @@ abbrev pub IsSought : Heaps → ℕ → Option RowId → Sought → Type 0
 IsSought heaps table after (sought.Came at) = IsWhere heaps table after at
 IsSought heaps table after _ = Unit {0}
 
+-- another actor holds a page of this table
+abbrev pub IsWithheld : ℕ → ℕ → View → Type 0
+IsWithheld a b v = (b ≢ a) × ((table : ℕ) × (r : RowId) × ((v.actors b).holds table r ≡ true))
+
+-- a look that is to be made again has turned once more; one for whose page it has to wait says who holds it
+abbrev pub TurnsTo : ℕ → View → View → Sought → Type 0
+TurnsTo a old new (sought.Came Lost) = ⊥
+TurnsTo a old new (sought.Came at) = Unit {0}
+TurnsTo a old new sought.Onward = GoesOn a old new
+TurnsTo a old new (sought.Held b) = IsWithheld a b old
+
 -- and what a look at a row
 abbrev pub IsSeen : Heaps → ℕ → RowId → Saw → Type 0
 IsSeen heaps table rid (saw.Live row) = live (heaps table rid) ≡ Some row
 IsSeen heaps table rid saw.Passed = live (heaps table rid) ≡ None
 IsSeen heaps table rid (saw.Held b) = Unit {0}
+
+-- .. or who holds its page
+abbrev pub IsKeptFrom : ℕ → View → Saw → Type 0
+IsKeptFrom a v (saw.Held b) = IsWithheld a b v
+IsKeptFrom a v _ = Unit {0}
 
 -- the row that stands here was read
 pub record Takes (old new : Scan) (rid : RowId) (row : List Value) : Type 0 where

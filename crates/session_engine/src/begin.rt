@@ -1,36 +1,42 @@
 //! The steps in which a statement begins.
 
-ghost use Rattle.std.specs.Prelude.{◌≡◌};
+ghost use Rattle.std.specs.Prelude.{◌≡◌, ◌+◌};
 ghost use Rattle.session_engine.specs.Stepped.{Grows, HasStopped, NotEnded, stop_after};
+ghost use Rattle.session_engine.specs.Blocking.{HasWhy};
+ghost use Rattle.session_engine.specs.Pacing.{Paces, next_at};
+ghost use Rattle.session_engine.specs.declared.next.Next.TheVariants.{Begin, Resume};
 
 use crate::beginning::{fresh, get_ready, start, started, text_of, turn_away, turned_away};
 use crate::engine::{Engine, put};
 use crate::follows::ends;
 use crate::session::Phase;
-use crate::step::{ASTRAY, Event, Step};
+use crate::step::{Event, Step};
 use store_api::answers::StoreAnswer;
 use store_api::store::RowStore;
 
 impl<S: RowStore> Engine<S> {
     /// The next statement begins, in a new transaction. One for whose transaction the store has no number is refused.
-    #[tactic(auto, using(crate::proofs::KeptLemmas::kept_scripts, crate::proofs::KeptLemmas::grows_one, crate::proofs::KeptLemmas::grows_two, crate::proofs::KeptLemmas::grows_none, crate::proofs::KeptLemmas::keeps_for))]
+    #[tactic(auto, using(crate::proofs::KeptLemmas::kept_scripts, crate::proofs::KeptLemmas::grows_one, crate::proofs::KeptLemmas::grows_two, crate::proofs::KeptLemmas::grows_none, crate::proofs::KeptLemmas::keeps_for, crate::proofs::PaceLemmas::paces_done, crate::proofs::PaceLemmas::why_done, crate::proofs::PaceLemmas::acts_none, crate::proofs::PaceLemmas::acts_still))]
     pub(crate) fn begin(&mut self, c: usize) -> Step
+        requires here { next_at self.old.5 c ≡ Begin }
         ensures same { self.new.0 ≡ self.old.0 }
         ensures grows { Grows result self.old.1 self.new.1 }
         ensures stops { self.new.4 ≡ stop_after result self.old.4 }
         ensures cause { HasStopped result (S.view self.new.3) }
         ensures goes { NotEnded result }
+        ensures paces { Paces c result self.old.5 self.new.5 (S.view self.old.3) (S.view self.new.3) }
+        ensures why { HasWhy (c + 1) result self.new.1 self.new.2 (S.view self.old.3) }
     {
         if c >= self.sessions.len() {
-            return ASTRAY;
+            unreachable!()
         }
         self.store.law();
         let session = &mut self.sessions[c];
         let Phase::Idle = session.phase else {
-            return ASTRAY;
+            unreachable!()
         };
         let false = session.closed else {
-            return ASTRAY;
+            unreachable!()
         };
         let Some(txn) = fresh(self.last, self.store.next_txn()) else {
             return Step::Memory;
@@ -48,9 +54,7 @@ impl<S: RowStore> Engine<S> {
         let Ok(found) = ready else {
             return Step::Memory;
         };
-        let Some(asked) = found else {
-            return ASTRAY;
-        };
+        let Some(asked) = found else { unreachable!() };
         match self.store.begin(txn) {
             Ok(()) => {
                 put(
@@ -83,24 +87,27 @@ impl<S: RowStore> Engine<S> {
     }
 
     /// The next statement begins, in the transaction that is open.
-    #[tactic(auto, using(crate::proofs::KeptLemmas::kept_scripts, crate::proofs::KeptLemmas::grows_one, crate::proofs::KeptLemmas::grows_none))]
+    #[tactic(auto, using(crate::proofs::KeptLemmas::kept_scripts, crate::proofs::KeptLemmas::grows_one, crate::proofs::KeptLemmas::grows_none, crate::proofs::PaceLemmas::paces_done, crate::proofs::PaceLemmas::why_done, crate::proofs::PaceLemmas::acts_none))]
     pub(crate) fn resume(&mut self, c: usize) -> Step
+        requires here { next_at self.old.5 c ≡ Resume }
         ensures same { self.new.0 ≡ self.old.0 }
         ensures grows { Grows result self.old.1 self.new.1 }
         ensures stops { self.new.4 ≡ stop_after result self.old.4 }
         ensures cause { HasStopped result (S.view self.new.3) }
         ensures goes { NotEnded result }
+        ensures paces { Paces c result self.old.5 self.new.5 (S.view self.old.3) (S.view self.new.3) }
+        ensures why { HasWhy (c + 1) result self.new.1 self.new.2 (S.view self.old.3) }
     {
         if c >= self.sessions.len() {
-            return ASTRAY;
+            unreachable!()
         }
         self.store.law();
         let session = &mut self.sessions[c];
         let Phase::Resting = session.phase else {
-            return ASTRAY;
+            unreachable!()
         };
         let false = session.closed else {
-            return ASTRAY;
+            unreachable!()
         };
         let waiters = self.locks.waiters();
         let ready = get_ready(
@@ -115,9 +122,7 @@ impl<S: RowStore> Engine<S> {
         let Ok(found) = ready else {
             return Step::Memory;
         };
-        let Some(asked) = found else {
-            return ASTRAY;
-        };
+        let Some(asked) = found else { unreachable!() };
         let txn = session.txn;
         let mark = self.store.place(txn);
         put(

@@ -1,7 +1,12 @@
 //! The steps of a CREATE TABLE: it makes its container, makes room for each of its catalog rows and puts it, and is answered behind the last.
 
-ghost use Rattle.std.specs.Prelude.{◌≡◌};
+ghost use Rattle.std.specs.Prelude.{◌≡◌, ◌+◌};
 ghost use Rattle.session_engine.specs.Stepped.{Grows, HasStopped, NotEnded, stop_after};
+ghost use Rattle.session_engine.specs.Blocking.{HasWhy};
+ghost use Rattle.session_engine.specs.Pacing.{Paces, next_at};
+ghost use Rattle.session_engine.specs.declared.next.Next.TheVariants.{Work as ToWork};
+ghost use Rattle.session_engine.specs.declared.next.Work.TheVariants.{Build as ToBuild};
+ghost use Rattle.session_engine.specs.declared.next.Build.TheVariants.{Done, Lay, Spread, List as ToList, Make as ToMake};
 
 use crate::asking::starve;
 use crate::creating::{Contained, new_heap, take_unmade};
@@ -14,32 +19,35 @@ use crate::listing::{
     table_to_put, told_done,
 };
 use crate::session::{Phase, Plan};
-use crate::step::{ASTRAY, Event, Step, Why};
+use crate::step::{Event, Step, Why};
 use dby_types::state::SqlState;
 use store_api::answers::StoreAnswer;
 use store_api::store::RowStore;
 
 impl<S: RowStore> Engine<S> {
     /// A CREATE TABLE makes its container, whose number is the table's. Where none is left it is refused.
-    #[tactic(auto, using(crate::proofs::KeptLemmas::kept_scripts, crate::proofs::KeptLemmas::grows_none, crate::proofs::KeptLemmas::goes_noted))]
+    #[tactic(auto, using(crate::proofs::KeptLemmas::kept_scripts, crate::proofs::KeptLemmas::grows_none, crate::proofs::KeptLemmas::goes_noted, crate::proofs::PaceLemmas::paces_done, crate::proofs::PaceLemmas::why_done, crate::proofs::PaceLemmas::acts_same, crate::proofs::PaceLemmas::paces_on, crate::proofs::PaceLemmas::replanned))]
     pub(crate) fn make(&mut self, c: usize) -> Step
+        requires here { next_at self.old.5 c ≡ ToWork (ToBuild ToMake) }
         ensures same { self.new.0 ≡ self.old.0 }
         ensures grows { Grows result self.old.1 self.new.1 }
         ensures stops { self.new.4 ≡ stop_after result self.old.4 }
         ensures cause { HasStopped result (S.view self.new.3) }
         ensures goes { NotEnded result }
+        ensures paces { Paces c result self.old.5 self.new.5 (S.view self.old.3) (S.view self.new.3) }
+        ensures why { HasWhy (c + 1) result self.new.1 self.new.2 (S.view self.old.3) }
     {
         if c >= self.sessions.len() {
-            return ASTRAY;
+            unreachable!()
         }
         self.store.law();
         let actor = actor_of(c);
         let session = &mut self.sessions[c];
         let Phase::Working = session.phase else {
-            return ASTRAY;
+            unreachable!()
         };
         let Some(mut make) = take_unmade(session) else {
-            return ASTRAY;
+            unreachable!()
         };
         match new_heap(&mut self.store, actor, session.txn, &mut make) {
             Ok(Contained::Made) => {
@@ -76,32 +84,31 @@ impl<S: RowStore> Engine<S> {
     }
 
     /// It makes room for its next catalog row. Where no page is left it is refused.
-    #[tactic(auto, using(crate::proofs::KeptLemmas::kept_scripts, crate::proofs::KeptLemmas::grows_none, crate::proofs::KeptLemmas::goes_noted))]
+    #[tactic(auto, using(crate::proofs::KeptLemmas::kept_scripts, crate::proofs::KeptLemmas::grows_none, crate::proofs::KeptLemmas::goes_noted, crate::proofs::PaceLemmas::paces_done, crate::proofs::PaceLemmas::why_done, crate::proofs::PaceLemmas::acts_same, crate::proofs::PaceLemmas::paces_blocked, crate::proofs::PaceLemmas::acts_bare, crate::proofs::PaceLemmas::paces_starved, crate::proofs::PaceLemmas::paces_ran_out, crate::proofs::PaceLemmas::paces_came, crate::proofs::PaceLemmas::spread_near, crate::proofs::PaceLemmas::paces_on, crate::proofs::PaceLemmas::replanned, crate::proofs::PaceLemmas::why_withheld))]
     pub(crate) fn spread(&mut self, c: usize) -> Step
+        requires here { next_at self.old.5 c ≡ ToWork (ToBuild Spread) }
         ensures same { self.new.0 ≡ self.old.0 }
         ensures grows { Grows result self.old.1 self.new.1 }
         ensures stops { self.new.4 ≡ stop_after result self.old.4 }
         ensures cause { HasStopped result (S.view self.new.3) }
         ensures goes { NotEnded result }
+        ensures paces { Paces c result self.old.5 self.new.5 (S.view self.old.3) (S.view self.new.3) }
+        ensures why { HasWhy (c + 1) result self.new.1 self.new.2 (S.view self.old.3) }
     {
         if c >= self.sessions.len() {
-            return ASTRAY;
+            unreachable!()
         }
         self.store.law();
         let actor = actor_of(c);
         let session = &mut self.sessions[c];
         let Phase::Working = session.phase else {
-            return ASTRAY;
+            unreachable!()
         };
         let Plan::Create(make) = &mut session.plan else {
-            return ASTRAY;
+            unreachable!()
         };
-        let true = make.made else {
-            return ASTRAY;
-        };
-        let false = make.has_room else {
-            return ASTRAY;
-        };
+        let true = make.made else { unreachable!() };
+        let false = make.has_room else { unreachable!() };
         match room_for_row(&mut self.store, actor, session.txn, table_of_next(make)) {
             Ok(Roomy::Made) => {
                 make.has_room = true;
@@ -127,31 +134,34 @@ impl<S: RowStore> Engine<S> {
                 self.owed -= 1;
                 Step::Went(Event::Fix)
             }
-            Err(answer) => self.note(Err(answer), Event::Fix),
+            Err(answer) => self.note(Err(answer), Event::Change),
         }
     }
 
     /// It puts the row of its next column.
-    #[tactic(auto, using(crate::proofs::KeptLemmas::kept_scripts, crate::proofs::KeptLemmas::grows_one, crate::proofs::KeptLemmas::grows_none, crate::proofs::KeptLemmas::keeps_for, crate::proofs::KeptLemmas::goes_noted))]
+    #[tactic(auto, using(crate::proofs::KeptLemmas::kept_scripts, crate::proofs::KeptLemmas::grows_one, crate::proofs::KeptLemmas::grows_none, crate::proofs::KeptLemmas::keeps_for, crate::proofs::KeptLemmas::goes_noted, crate::proofs::PaceLemmas::paces_done, crate::proofs::PaceLemmas::why_done, crate::proofs::PaceLemmas::acts_none, crate::proofs::PaceLemmas::acts_frame))]
     pub(crate) fn lay(&mut self, c: usize) -> Step
+        requires here { next_at self.old.5 c ≡ ToWork (ToBuild Lay) }
         ensures same { self.new.0 ≡ self.old.0 }
         ensures grows { Grows result self.old.1 self.new.1 }
         ensures stops { self.new.4 ≡ stop_after result self.old.4 }
         ensures cause { HasStopped result (S.view self.new.3) }
         ensures goes { NotEnded result }
+        ensures paces { Paces c result self.old.5 self.new.5 (S.view self.old.3) (S.view self.new.3) }
+        ensures why { HasWhy (c + 1) result self.new.1 self.new.2 (S.view self.old.3) }
     {
         if c >= self.sessions.len() {
-            return ASTRAY;
+            unreachable!()
         }
         self.store.law();
         let actor = actor_of(c);
         let did = self.entries.len() as u64;
         let session = &mut self.sessions[c];
         let Phase::Working = session.phase else {
-            return ASTRAY;
+            unreachable!()
         };
         let Some(laid) = column_to_put(self.alloc, session) else {
-            return ASTRAY;
+            unreachable!()
         };
         let Ok(row) = ready(laid, &mut self.entries, &mut session.made, self.owed) else {
             starve(session);
@@ -178,26 +188,29 @@ impl<S: RowStore> Engine<S> {
     }
 
     /// It puts its own row, and stands in the dictionary from now on.
-    #[tactic(auto, using(crate::proofs::KeptLemmas::kept_scripts, crate::proofs::KeptLemmas::grows_one, crate::proofs::KeptLemmas::grows_none, crate::proofs::KeptLemmas::keeps_for, crate::proofs::KeptLemmas::goes_noted))]
+    #[tactic(auto, using(crate::proofs::KeptLemmas::kept_scripts, crate::proofs::KeptLemmas::grows_one, crate::proofs::KeptLemmas::grows_none, crate::proofs::KeptLemmas::keeps_for, crate::proofs::KeptLemmas::goes_noted, crate::proofs::PaceLemmas::paces_done, crate::proofs::PaceLemmas::why_done, crate::proofs::PaceLemmas::acts_none, crate::proofs::PaceLemmas::acts_frame))]
     pub(crate) fn list(&mut self, c: usize) -> Step
+        requires here { next_at self.old.5 c ≡ ToWork (ToBuild ToList) }
         ensures same { self.new.0 ≡ self.old.0 }
         ensures grows { Grows result self.old.1 self.new.1 }
         ensures stops { self.new.4 ≡ stop_after result self.old.4 }
         ensures cause { HasStopped result (S.view self.new.3) }
         ensures goes { NotEnded result }
+        ensures paces { Paces c result self.old.5 self.new.5 (S.view self.old.3) (S.view self.new.3) }
+        ensures why { HasWhy (c + 1) result self.new.1 self.new.2 (S.view self.old.3) }
     {
         if c >= self.sessions.len() {
-            return ASTRAY;
+            unreachable!()
         }
         self.store.law();
         let actor = actor_of(c);
         let did = self.entries.len() as u64;
         let session = &mut self.sessions[c];
         let Phase::Working = session.phase else {
-            return ASTRAY;
+            unreachable!()
         };
         let Some(listed) = table_to_put(self.alloc, session) else {
-            return ASTRAY;
+            unreachable!()
         };
         let roomy = ready_to_list(listed, &mut self.tables);
         let Ok(listing) = ready(roomy, &mut self.entries, &mut session.made, self.owed) else {
@@ -227,29 +240,32 @@ impl<S: RowStore> Engine<S> {
     }
 
     /// It has put all its rows, and is answered.
-    #[tactic(auto, using(crate::proofs::KeptLemmas::kept_scripts, crate::proofs::KeptLemmas::grows_finished, crate::proofs::KeptLemmas::stops_finished, crate::proofs::KeptLemmas::cause_finished, crate::proofs::KeptLemmas::goes_finished))]
+    #[tactic(auto, using(crate::proofs::KeptLemmas::kept_scripts, crate::proofs::KeptLemmas::grows_finished, crate::proofs::KeptLemmas::stops_finished, crate::proofs::KeptLemmas::cause_finished, crate::proofs::KeptLemmas::goes_finished, crate::proofs::PaceLemmas::paces_done, crate::proofs::PaceLemmas::why_done, crate::proofs::PaceLemmas::acts_frame))]
     pub(crate) fn done(&mut self, c: usize) -> Step
+        requires here { next_at self.old.5 c ≡ ToWork (ToBuild Done) }
         ensures same { self.new.0 ≡ self.old.0 }
         ensures grows { Grows result self.old.1 self.new.1 }
         ensures stops { self.new.4 ≡ stop_after result self.old.4 }
         ensures cause { HasStopped result (S.view self.new.3) }
         ensures goes { NotEnded result }
+        ensures paces { Paces c result self.old.5 self.new.5 (S.view self.old.3) (S.view self.new.3) }
+        ensures why { HasWhy (c + 1) result self.new.1 self.new.2 (S.view self.old.3) }
     {
         if c >= self.sessions.len() {
-            return ASTRAY;
+            unreachable!()
         }
         self.store.law();
         let actor = actor_of(c);
         let place = self.entries.len() as u64;
         let session = &mut self.sessions[c];
         let Phase::Working = session.phase else {
-            return ASTRAY;
+            unreachable!()
         };
         let Plan::Create(make) = &session.plan else {
-            return ASTRAY;
+            unreachable!()
         };
         let true = is_listed(make) else {
-            return ASTRAY;
+            unreachable!()
         };
         self.store.let_go(actor);
         session.plan = Plan::Nothing;

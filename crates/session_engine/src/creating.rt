@@ -6,7 +6,8 @@ ghost use Rattle.std.specs.Str.{bytes_eq};
 ghost use Rattle.journal_model.specs.Meaning.{has_name, names_twice};
 ghost use Rattle.store_api.specs.Effects.{IsOpen, MayDescribe};
 ghost use Rattle.store_api.specs.View.{MayHold};
-ghost use Rattle.session_engine.specs.Creating.{Stays, Remains, IsTaken, IsContained, IsDescribedBy, IsBare};
+ghost use Rattle.session_engine.specs.Creating.{Stays, Remains, IsTaken, IsContained, IsDescribedBy, IsBare, TurnsIn};
+ghost use Rattle.session_engine.specs.Pacing.{Acts};
 ghost use Rattle.session_engine.specs.Stepped.{KeepsFor};
 
 use crate::session::{Make, Plan, Session};
@@ -83,6 +84,7 @@ pub(crate) fn take_unmade(session: &mut Session) -> Option<Make>
 fn describe<S: RowStore>(store: &mut S, def: &TableDef) -> Result<(), StoreAnswer>
     requires { MayDescribe (S.view store.old) def.now }
     ensures stays { Remains (S.view store.old) (S.view store.new) }
+    ensures pages { (S.view store.new).pages ≡ (S.view store.old).pages }
     ensures ok { OnOk result (IsDescribedBy def.now (S.view store.old) (S.view store.new)) }
     ensures err { IfErr result (λ e. (S.view store.new).content ≡ (S.view store.old).content) }
     ensures cause { IfErr result (KeepsFor (S.view store.new)) }
@@ -107,6 +109,8 @@ pub(crate) fn new_heap<S: RowStore>(
     requires short { row_len make.old.def.columns ≤ 1900 }
     ensures stays { Stays actor (S.view store.old) (S.view store.new) }
     ensures made { IfOk result (IsContained txn.0 make.old make.new (S.view store.old) (S.view store.new)) }
+    ensures acts { Acts actor (S.view store.old) (S.view store.new) }
+    ensures turns { IfOk result (TurnsIn actor (S.view store.old) (S.view store.new)) }
     ensures err { IfErr result (λ e. IsBare txn.0 make.old make.new (S.view store.old) (S.view store.new)) }
     ensures cause { IfErr result (KeepsFor (S.view store.new)) }
 {

@@ -1,6 +1,6 @@
 //! The engine: its connections over one store, and the journal that they write.
 
-ghost use Rattle.std.specs.Prelude.{IfOk, IfErr, Some, None, ◌≡◌, ◌+◌, ◌^◌, ◌<◌, ◌≤◌, ◌++◌, [], ◌∷◌, length, vec_len, vec_capacity};
+ghost use Rattle.std.specs.Prelude.{slice_set, true, IfOk, IfErr, Some, None, ◌≡◌, ◌+◌, ◌^◌, ◌<◌, ◌≤◌, ◌++◌, [], ◌∷◌, length, vec_len, vec_capacity};
 ghost use Rattle.lock_modes.specs.Lock.{queue};
 ghost use Rattle.lock_manager.specs.Table.{lock, woken_of};
 ghost use Rattle.session_engine.specs.Release.{Idles, Released};
@@ -9,13 +9,19 @@ ghost use Rattle.session_engine.specs.Opening.{IsEmptyStore};
 ghost use Rattle.session_engine.specs.Stepped.{Grows, HasStopped, IsFinished, IsNoted, IsTold, KeepsFor, NotEnded, stop_after};
 ghost use Rattle.session_engine.specs.declared.step.Event.TheVariants.{Change, Rollback};
 ghost use Rattle.session_model.specs.Legal.{IsLegal};
+ghost use Rattle.store_api.specs.View.{IsSound};
 ghost use Rattle.table_model.specs.Tables.{Each, no_tables};
+ghost use Rattle.session_engine.specs.Blocking.{HasWhy};
+ghost use Rattle.session_engine.specs.Pacing.{Paces, gets_done, next_at};
+ghost use Rattle.session_engine.specs.declared.next.Next.TheVariants.{Close, Refuse as ToRefuse, Work as ToWork};
+ghost use Rattle.session_engine.specs.declared.next.Work.TheVariants.{Command as ToCommand};
+ghost use Rattle.session_engine.specs.declared.next.Close.TheVariants.{GiveUp, Acknowledge, Append, Force, Leave, Vanish};
 
 use crate::dictionary::{Tables, unlist};
 use crate::follows::{automatic_after, ends, level_after, phase_answered, phase_refused, told};
 use crate::opening::connections;
 use crate::session::{Phase, Plan, Session};
-use crate::step::{ASTRAY, Event, Step, Stop, Why};
+use crate::step::{Event, Step, Stop, Why};
 use dby_types::number::TxnNo;
 use dby_types::seq::Seq;
 use dby_types::value::Txt;
@@ -53,6 +59,8 @@ pub struct Engine<S: RowStore> {
 impl<S: RowStore> Model for Engine<S> {
     ghost use Rattle.std.specs.Prelude.{List, ℕ, Option};
     ghost use Rattle.session_engine.specs.State.{scripts_of};
+    ghost use Rattle.session_engine.specs.declared.next.Next.{Next};
+    ghost use Rattle.session_engine.specs.Pacing.{nexts_of};
     ghost use Rattle.session_engine.specs.declared.step.Stop.{Stop};
     ghost use Rattle.journal_model.specs.declared.journal.Entry.{Entry};
     ghost use Rattle.session_model.specs.declared.journal.Locked.{Locked};
@@ -62,15 +70,15 @@ impl<S: RowStore> Model for Engine<S> {
 
     ghost coded = { Prim.hlevel (codes, expression.the_row.coded) };
 
-    ghost Value = { List (List ℕ) × List Entry × List Locked × S × Option Stop };
+    ghost Value = { List (List ℕ) × List Entry × List Locked × S × Option Stop × List Next };
 
-    ghost view = { λ e. (scripts_of e.sessions.items, e.entries.items, e.events.items, e.store, e.stop) };
+    ghost view = { λ e. (scripts_of e.sessions.items, e.entries.items, e.events.items, e.store, e.stop, nexts_of e.sessions.items) };
 
     ghost invariant = { λ e. EngineHolds e.entries e.events e.locks e.sessions.items (S.view e.store) e.tables.entries e.last e.owed e.owed_events };
 }
 
 /// Puts an entry for which there is room.
-pub(crate) fn put<T: Drop>(items: &mut Vec<T>, item: T)
+pub fn put<T: Drop>(items: &mut Vec<T>, item: T)
     requires { vec_len items.old < vec_capacity items.old }
     ensures items { items.new.items ≡ items.old.items ++ item ∷ [] }
     ensures len { vec_len items.new ≡ vec_len items.old + 1 }
@@ -80,7 +88,7 @@ pub(crate) fn put<T: Drop>(items: &mut Vec<T>, item: T)
 }
 
 /// The actor that a connection is for the store: the first one is 1.
-pub(crate) fn actor_of(c: usize) -> Actor
+pub fn actor_of(c: usize) -> Actor
     requires { c + 1 < 2 ^ 32 }
     ensures { result ≡ c + 1 }
 {
@@ -141,7 +149,8 @@ fn release(locks: &mut LockTable, events: &mut Vec<Locked>, place: u64, txn: Txn
 /// A statement was told in this step, unless the step stopped.
 fn tells(step: Step, told: bool) -> Step
     requires { IsNoted Rollback step }
-    ensures { IsTold step result }
+    ensures told { IsTold step result }
+    ensures done { gets_done result ≡ true }
 {
     match step {
         Step::Went(event) => if told {
@@ -155,7 +164,8 @@ fn tells(step: Step, told: bool) -> Step
 
 /// A statement has its answer or its refusal; it is told now where its transaction stays open, else at its end.
 pub(crate) fn finished(phase: Phase) -> Step
-    ensures { IsFinished result }
+    ensures finished { IsFinished result }
+    ensures done { gets_done result ≡ true }
 {
     match phase {
         Phase::Resting => Step::Answered,
@@ -173,7 +183,7 @@ impl<S: RowStore + Drop> Engine<S> {
         requires empty { IsEmptyStore (S.view store) }
         requires few { length scripts.old.items < (S.view store).limit }
         requires short { Each (λ s. length s < 2 ^ 32) scripts.old.items }
-        ensures { IfOk result (λ e. e ≡ (scripts.old.items, [], [], store, None)) }
+        ensures { IfOk result (λ e. (e.0 ≡ scripts.old.items) × (e.1 ≡ []) × (e.2 ≡ []) × (e.3 ≡ store) × (e.4 ≡ None)) }
     {
         let sessions = connections(alloc, scripts)?;
         Ok(Engine {
@@ -193,23 +203,28 @@ impl<S: RowStore + Drop> Engine<S> {
 }
 
 impl<S: RowStore> Engine<S> {
-    /// The journal is legal for the scripts, at any time.
+    /// The journal is legal for the scripts, and the store is sound, at any time.
     pub fn law(&self)
-        ensures { IsLegal no_tables self.now.0 self.now.1 self.now.2 }
+        ensures legal { IsLegal no_tables self.now.0 self.now.1 self.now.2 }
+        ensures sound { IsSound (S.view self.now.3) }
     {
         let _ = self.sessions.is_empty();
+        self.store.law();
     }
 
     /// Keeps the store's first failure, and answers it; where there is none, the step went.
     pub(crate) fn note(&mut self, answer: Result<(), StoreAnswer>, event: Event) -> Step
-        requires { IfErr answer (KeepsFor (S.view self.old.3)) }
+        requires kept { IfErr answer (KeepsFor (S.view self.old.3)) }
+        requires done { gets_done (Step.Went event) ≡ true }
         ensures same { self.new.0 ≡ self.old.0 }
         ensures entries { self.new.1 ≡ self.old.1 }
         ensures events { self.new.2 ≡ self.old.2 }
         ensures store { self.new.3 ≡ self.old.3 }
+        ensures nexts { self.new.5 ≡ self.old.5 }
         ensures stops { self.new.4 ≡ stop_after result self.old.4 }
         ensures cause { HasStopped result (S.view self.new.3) }
         ensures noted { IsNoted event result }
+        ensures done { gets_done result ≡ true }
     {
         match answer {
             Err(StoreAnswer::Failed) => {
@@ -228,9 +243,11 @@ impl<S: RowStore> Engine<S> {
         ensures entries { self.new.1 ≡ self.old.1 }
         ensures events { self.new.2 ≡ self.old.2 }
         ensures store { self.new.3 ≡ self.old.3 }
+        ensures nexts { self.new.5 ≡ self.old.5 }
         ensures stops { self.new.4 ≡ stop_after result self.old.4 }
         ensures cause { HasStopped result (S.view self.new.3) }
         ensures goes { NotEnded result }
+        ensures done { gets_done result ≡ true }
     {
         match answer {
             StoreAnswer::Memory => Step::Memory,
@@ -245,9 +262,11 @@ impl<S: RowStore> Engine<S> {
         ensures entries { self.new.1 ≡ self.old.1 }
         ensures events { self.new.2 ≡ self.old.2 }
         ensures store { self.new.3 ≡ self.old.3 }
+        ensures nexts { self.new.5 ≡ self.old.5 }
         ensures stops { self.new.4 ≡ stop_after result self.old.4 }
         ensures cause { HasStopped result (S.view self.new.3) }
         ensures noted { IsNoted Change result }
+        ensures done { gets_done result ≡ true }
     {
         match answer {
             StoreAnswer::Memory => Step::Went(Event::Change),
@@ -260,6 +279,7 @@ impl<S: RowStore> Engine<S> {
         ensures entries { self.new.1 ≡ self.old.1 }
         ensures events { self.new.2 ≡ self.old.2 }
         ensures store { self.new.3 ≡ self.old.3 }
+        ensures nexts { self.new.5 ≡ self.old.5 }
         ensures stops { self.new.4 ≡ Some stop }
         ensures is { result ≡ Step.Stopped stop }
     {
@@ -268,20 +288,23 @@ impl<S: RowStore> Engine<S> {
     }
 
     /// The commit record: from here on the commit stands, and is not durable yet.
-    #[tactic(auto, using(crate::proofs::KeptLemmas::kept_scripts, crate::proofs::KeptLemmas::grows_noted, crate::proofs::KeptLemmas::grows_none, crate::proofs::KeptLemmas::keeps_in, crate::proofs::KeptLemmas::goes_noted))]
+    #[tactic(auto, using(crate::proofs::KeptLemmas::kept_scripts, crate::proofs::KeptLemmas::grows_noted, crate::proofs::KeptLemmas::grows_none, crate::proofs::KeptLemmas::keeps_in, crate::proofs::KeptLemmas::goes_noted, crate::proofs::PaceLemmas::paces_done, crate::proofs::PaceLemmas::why_done, crate::proofs::PaceLemmas::acts_still))]
     pub(crate) fn append(&mut self, c: usize) -> Step
+        requires here { next_at self.old.5 c ≡ Close Append }
         ensures same { self.new.0 ≡ self.old.0 }
         ensures grows { Grows result self.old.1 self.new.1 }
         ensures stops { self.new.4 ≡ stop_after result self.old.4 }
         ensures cause { HasStopped result (S.view self.new.3) }
         ensures goes { NotEnded result }
+        ensures paces { Paces c result self.old.5 self.new.5 (S.view self.old.3) (S.view self.new.3) }
+        ensures why { HasWhy (c + 1) result self.new.1 self.new.2 (S.view self.old.3) }
     {
         if c >= self.sessions.len() {
-            return ASTRAY;
+            unreachable!()
         }
         let session = &mut self.sessions[c];
         let Phase::Committing = session.phase else {
-            return ASTRAY;
+            unreachable!()
         };
         let answer = self.store.append_commit(session.txn);
         put(&mut self.entries, Entry::Committed(session.txn));
@@ -293,19 +316,22 @@ impl<S: RowStore> Engine<S> {
     }
 
     /// The commit is made durable.
-    #[tactic(auto, using(crate::proofs::KeptLemmas::kept_scripts, crate::proofs::KeptLemmas::grows_none, crate::proofs::KeptLemmas::keeps_in, crate::proofs::KeptLemmas::goes_noted))]
+    #[tactic(auto, using(crate::proofs::KeptLemmas::kept_scripts, crate::proofs::KeptLemmas::grows_none, crate::proofs::KeptLemmas::keeps_in, crate::proofs::KeptLemmas::goes_noted, crate::proofs::PaceLemmas::paces_done, crate::proofs::PaceLemmas::why_done, crate::proofs::PaceLemmas::paces_kept, crate::proofs::PaceLemmas::acts_still))]
     pub(crate) fn force(&mut self, c: usize) -> Step
+        requires here { next_at self.old.5 c ≡ Close Force }
         ensures same { self.new.0 ≡ self.old.0 }
         ensures grows { Grows result self.old.1 self.new.1 }
         ensures stops { self.new.4 ≡ stop_after result self.old.4 }
         ensures cause { HasStopped result (S.view self.new.3) }
         ensures goes { NotEnded result }
+        ensures paces { Paces c result self.old.5 self.new.5 (S.view self.old.3) (S.view self.new.3) }
+        ensures why { HasWhy (c + 1) result self.new.1 self.new.2 (S.view self.old.3) }
     {
         if c >= self.sessions.len() {
-            return ASTRAY;
+            unreachable!()
         }
         let Phase::Forcing = self.sessions[c].phase else {
-            return ASTRAY;
+            unreachable!()
         };
         let answer = self.store.force();
         if answer.is_ok() {
@@ -316,20 +342,23 @@ impl<S: RowStore> Engine<S> {
     }
 
     /// The commit is durable: all locks go, and the connection may be told.
-    #[tactic(auto, using(crate::proofs::KeptLemmas::kept_scripts, crate::proofs::KeptLemmas::grows_one))]
+    #[tactic(auto, using(crate::proofs::KeptLemmas::kept_scripts, crate::proofs::KeptLemmas::grows_one, crate::proofs::PaceLemmas::paces_done, crate::proofs::PaceLemmas::why_done, crate::proofs::PaceLemmas::acts_none))]
     pub(crate) fn acknowledge(&mut self, c: usize) -> Step
+        requires here { next_at self.old.5 c ≡ Close Acknowledge }
         ensures same { self.new.0 ≡ self.old.0 }
         ensures grows { Grows result self.old.1 self.new.1 }
         ensures stops { self.new.4 ≡ stop_after result self.old.4 }
         ensures cause { HasStopped result (S.view self.new.3) }
         ensures goes { NotEnded result }
+        ensures paces { Paces c result self.old.5 self.new.5 (S.view self.old.3) (S.view self.new.3) }
+        ensures why { HasWhy (c + 1) result self.new.1 self.new.2 (S.view self.old.3) }
     {
         if c >= self.sessions.len() {
-            return ASTRAY;
+            unreachable!()
         }
         let session = &mut self.sessions[c];
         let Phase::Acknowledging = session.phase else {
-            return ASTRAY;
+            unreachable!()
         };
         let txn = session.txn;
         put(&mut self.entries, Entry::Acknowledged(txn));
@@ -346,26 +375,27 @@ impl<S: RowStore> Engine<S> {
     }
 
     /// A change of a transaction that leaves is taken back; where none is left, the transaction ends.
-    #[tactic(auto, using(crate::proofs::KeptLemmas::kept_scripts, crate::proofs::KeptLemmas::grows_one, crate::proofs::KeptLemmas::grows_none, crate::proofs::KeptLemmas::grows_told, crate::proofs::KeptLemmas::stops_told, crate::proofs::KeptLemmas::cause_told, crate::proofs::KeptLemmas::goes_told, crate::proofs::KeptLemmas::keeps_in, crate::proofs::KeptLemmas::keeps_for, crate::proofs::KeptLemmas::goes_noted))]
+    #[tactic(auto, using(crate::proofs::KeptLemmas::kept_scripts, crate::proofs::KeptLemmas::grows_one, crate::proofs::KeptLemmas::grows_none, crate::proofs::KeptLemmas::grows_told, crate::proofs::KeptLemmas::stops_told, crate::proofs::KeptLemmas::cause_told, crate::proofs::KeptLemmas::goes_told, crate::proofs::KeptLemmas::keeps_in, crate::proofs::KeptLemmas::keeps_for, crate::proofs::KeptLemmas::goes_noted, crate::proofs::PaceLemmas::paces_done, crate::proofs::PaceLemmas::why_done, crate::proofs::PaceLemmas::acts_frame, crate::proofs::PaceLemmas::acts_then, crate::proofs::PaceLemmas::paces_blocked, crate::proofs::PaceLemmas::acts_bare, crate::proofs::PaceLemmas::paces_on, crate::proofs::PaceLemmas::why_held))]
     pub(crate) fn leave(&mut self, c: usize) -> Step
+        requires here { next_at self.old.5 c ≡ Close Leave }
         ensures same { self.new.0 ≡ self.old.0 }
         ensures grows { Grows result self.old.1 self.new.1 }
         ensures stops { self.new.4 ≡ stop_after result self.old.4 }
         ensures cause { HasStopped result (S.view self.new.3) }
         ensures goes { NotEnded result }
+        ensures paces { Paces c result self.old.5 self.new.5 (S.view self.old.3) (S.view self.new.3) }
+        ensures why { HasWhy (c + 1) result self.new.1 self.new.2 (S.view self.old.3) }
     {
         if c >= self.sessions.len() {
-            return ASTRAY;
+            unreachable!()
         }
         self.store.law();
         let actor = actor_of(c);
         let session = &mut self.sessions[c];
         let Phase::Leaving = session.phase else {
-            return ASTRAY;
+            unreachable!()
         };
-        let true = session.opened else {
-            return ASTRAY;
-        };
+        let true = session.opened else { unreachable!() };
         let txn = session.txn;
         match self.store.undo_one(actor, txn, 0) {
             Ok(Undo::Undid { table, rid: _rid }) => {
@@ -398,23 +428,26 @@ impl<S: RowStore> Engine<S> {
     }
 
     /// A transaction ends that the store never had.
-    #[tactic(auto, using(crate::proofs::KeptLemmas::kept_scripts, crate::proofs::KeptLemmas::grows_told, crate::proofs::KeptLemmas::stops_told, crate::proofs::KeptLemmas::cause_told, crate::proofs::KeptLemmas::goes_told))]
+    #[tactic(auto, using(crate::proofs::KeptLemmas::kept_scripts, crate::proofs::KeptLemmas::grows_told, crate::proofs::KeptLemmas::stops_told, crate::proofs::KeptLemmas::cause_told, crate::proofs::KeptLemmas::goes_told, crate::proofs::PaceLemmas::paces_done, crate::proofs::PaceLemmas::why_done, crate::proofs::PaceLemmas::acts_none))]
     pub(crate) fn vanish(&mut self, c: usize) -> Step
+        requires here { next_at self.old.5 c ≡ Close Vanish }
         ensures same { self.new.0 ≡ self.old.0 }
         ensures grows { Grows result self.old.1 self.new.1 }
         ensures stops { self.new.4 ≡ stop_after result self.old.4 }
         ensures cause { HasStopped result (S.view self.new.3) }
         ensures goes { NotEnded result }
+        ensures paces { Paces c result self.old.5 self.new.5 (S.view self.old.3) (S.view self.new.3) }
+        ensures why { HasWhy (c + 1) result self.new.1 self.new.2 (S.view self.old.3) }
     {
         if c >= self.sessions.len() {
-            return ASTRAY;
+            unreachable!()
         }
         let session = &mut self.sessions[c];
         let Phase::Leaving = session.phase else {
-            return ASTRAY;
+            unreachable!()
         };
         let false = session.opened else {
-            return ASTRAY;
+            unreachable!()
         };
         let txn = session.txn;
         put(&mut self.entries, Entry::RolledBack(txn));
@@ -430,34 +463,44 @@ impl<S: RowStore> Engine<S> {
     /// The script has ended in an open transaction: it is to be taken back.
     #[tactic(auto, using(crate::proofs::KeptLemmas::kept_scripts))]
     pub(crate) fn give_up(&mut self, c: usize)
-        ensures { self.new ≡ self.old }
+        requires here { next_at self.old.5 c ≡ Close GiveUp }
+        ensures same { self.new.0 ≡ self.old.0 }
+        ensures entries { self.new.1 ≡ self.old.1 }
+        ensures store { self.new.3 ≡ self.old.3 }
+        ensures stop { self.new.4 ≡ self.old.4 }
+        ensures leaves { self.new.5 ≡ slice_set self.old.5 c (Close Leave) }
     {
-        if c < self.sessions.len() {
-            let session = &mut self.sessions[c];
-            if let Phase::Resting = session.phase {
-                session.phase = Phase::Leaving;
-                session.closed = true;
-            }
+        if c >= self.sessions.len() {
+            unreachable!()
         }
+        let session = &mut self.sessions[c];
+        let Phase::Resting = session.phase else {
+            unreachable!()
+        };
+        session.phase = Phase::Leaving;
+        session.closed = true;
     }
 
     /// A change of a refused statement is taken back; where none is left, the refusal is put.
-    #[tactic(auto, using(crate::proofs::KeptLemmas::kept_scripts, crate::proofs::KeptLemmas::grows_one, crate::proofs::KeptLemmas::grows_none, crate::proofs::KeptLemmas::grows_finished, crate::proofs::KeptLemmas::stops_finished, crate::proofs::KeptLemmas::cause_finished, crate::proofs::KeptLemmas::goes_finished, crate::proofs::KeptLemmas::keeps_for, crate::proofs::KeptLemmas::goes_noted))]
+    #[tactic(auto, using(crate::proofs::KeptLemmas::kept_scripts, crate::proofs::KeptLemmas::grows_one, crate::proofs::KeptLemmas::grows_none, crate::proofs::KeptLemmas::grows_finished, crate::proofs::KeptLemmas::stops_finished, crate::proofs::KeptLemmas::cause_finished, crate::proofs::KeptLemmas::goes_finished, crate::proofs::KeptLemmas::keeps_for, crate::proofs::KeptLemmas::goes_noted, crate::proofs::PaceLemmas::paces_done, crate::proofs::PaceLemmas::why_done, crate::proofs::PaceLemmas::acts_frame, crate::proofs::PaceLemmas::paces_blocked, crate::proofs::PaceLemmas::acts_bare, crate::proofs::PaceLemmas::paces_on, crate::proofs::PaceLemmas::why_held))]
     pub(crate) fn refuse(&mut self, c: usize) -> Step
+        requires here { next_at self.old.5 c ≡ ToRefuse }
         ensures same { self.new.0 ≡ self.old.0 }
         ensures grows { Grows result self.old.1 self.new.1 }
         ensures stops { self.new.4 ≡ stop_after result self.old.4 }
         ensures cause { HasStopped result (S.view self.new.3) }
         ensures goes { NotEnded result }
+        ensures paces { Paces c result self.old.5 self.new.5 (S.view self.old.3) (S.view self.new.3) }
+        ensures why { HasWhy (c + 1) result self.new.1 self.new.2 (S.view self.old.3) }
     {
         if c >= self.sessions.len() {
-            return ASTRAY;
+            unreachable!()
         }
         self.store.law();
         let actor = actor_of(c);
         let session = &mut self.sessions[c];
         let Phase::Refusing = session.phase else {
-            return ASTRAY;
+            unreachable!()
         };
         let txn = session.txn;
         match self.store.undo_one(actor, txn, session.mark) {
@@ -478,10 +521,7 @@ impl<S: RowStore> Engine<S> {
                         self.owed -= 1;
                         finished(session.phase)
                     }
-                    other => {
-                        session.plan = other;
-                        Step::Went(Event::Finish)
-                    }
+                    _ => unreachable!(),
                 }
             }
             Ok(Undo::UndidContainer) => Step::Went(Event::Undo),
@@ -495,24 +535,27 @@ impl<S: RowStore> Engine<S> {
     }
 
     /// A command is answered: it ends its transaction, or sets its connection.
-    #[tactic(auto, using(crate::proofs::KeptLemmas::kept_scripts, crate::proofs::KeptLemmas::grows_none, crate::proofs::KeptLemmas::grows_finished, crate::proofs::KeptLemmas::stops_finished, crate::proofs::KeptLemmas::cause_finished, crate::proofs::KeptLemmas::goes_finished))]
+    #[tactic(auto, using(crate::proofs::KeptLemmas::kept_scripts, crate::proofs::KeptLemmas::grows_none, crate::proofs::KeptLemmas::grows_finished, crate::proofs::KeptLemmas::stops_finished, crate::proofs::KeptLemmas::cause_finished, crate::proofs::KeptLemmas::goes_finished, crate::proofs::PaceLemmas::paces_done, crate::proofs::PaceLemmas::why_done, crate::proofs::PaceLemmas::acts_none))]
     pub(crate) fn command(&mut self, c: usize) -> Step
+        requires here { next_at self.old.5 c ≡ ToWork ToCommand }
         ensures same { self.new.0 ≡ self.old.0 }
         ensures grows { Grows result self.old.1 self.new.1 }
         ensures stops { self.new.4 ≡ stop_after result self.old.4 }
         ensures cause { HasStopped result (S.view self.new.3) }
         ensures goes { NotEnded result }
+        ensures paces { Paces c result self.old.5 self.new.5 (S.view self.old.3) (S.view self.new.3) }
+        ensures why { HasWhy (c + 1) result self.new.1 self.new.2 (S.view self.old.3) }
     {
         if c >= self.sessions.len() {
-            return ASTRAY;
+            unreachable!()
         }
         let place = self.entries.len() as u64;
         let session = &mut self.sessions[c];
         let Phase::Working = session.phase else {
-            return ASTRAY;
+            unreachable!()
         };
         let Plan::Command(command) = session.plan else {
-            return ASTRAY;
+            unreachable!()
         };
         put(
             &mut self.entries,

@@ -3,7 +3,8 @@
 ghost use Rattle.std.specs.Prelude.{◌≡◌, ◌+◌, ◌≤◌, [], IfErr, IfOk, OnOk, vec_len, vec_capacity};
 ghost use Rattle.store_api.specs.Effects.{IsDescribed, IsOpen};
 ghost use Rattle.store_api.specs.View.{MayHold};
-ghost use Rattle.session_engine.specs.Filling.{Moves, IsRoomy, IsNextRow, IsPopped, inserted, run_out, told_count};
+ghost use Rattle.session_engine.specs.Filling.{Moves, IsRoomy, IsNextRow, IsPopped, TurnsFor, inserted, run_out, told_count};
+ghost use Rattle.session_engine.specs.Pacing.{Acts};
 ghost use Rattle.session_engine.specs.Stepped.{KeepsFor};
 
 use crate::binding::refused;
@@ -47,6 +48,8 @@ pub(crate) fn room_for_row<S: RowStore>(
     ensures moves { Moves actor (S.view store.old) (S.view store.new) }
     ensures cause { IfErr result (KeepsFor (S.view store.new)) }
     ensures made { IfOk result (IsRoomy actor table (S.view store.old) (S.view store.new)) }
+    ensures acts { Acts actor (S.view store.old) (S.view store.new) }
+    ensures turns { IfOk result (TurnsFor actor (S.view store.old) (S.view store.new)) }
 {
     let need = Room::Heap { table };
     match store.make_room(actor, txn, &need) {

@@ -17,6 +17,7 @@ mod follows;
 mod listing;
 mod next;
 mod opening;
+pub mod parts;
 mod prepare;
 mod run;
 mod scan;

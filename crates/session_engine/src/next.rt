@@ -1,13 +1,13 @@
 //! Which step a connection makes next.
 
-ghost use Rattle.std.specs.Prelude.{◌≡◌, nat_le, length, false};
-ghost use Rattle.session_engine.specs.Stepped.{ends_now, is_end_of};
+ghost use Rattle.std.specs.Prelude.{◌≡◌, nat_le, length};
+ghost use Rattle.session_engine.specs.Pacing.{next_of, next_of_fill, next_of_make, next_of_plan, next_of_scan};
 
 use crate::session::{Fill, Make, Phase, Plan, Scan, Session, Where};
 
 /// What a bound statement does next: a query's steps, an INSERT's, one of a CREATE's, and that of a command.
 #[derive(Clone, Copy, Debug, PartialEq, Eq)]
-pub(crate) enum Work {
+pub enum Work {
     Seek,
     Read,
     Answer,
@@ -20,7 +20,7 @@ pub(crate) enum Work {
 
 /// What a CREATE TABLE does next.
 #[derive(Clone, Copy, Debug, PartialEq, Eq)]
-pub(crate) enum Build {
+pub enum Build {
     Make,
     Spread,
     Lay,
@@ -30,7 +30,7 @@ pub(crate) enum Build {
 
 /// What comes behind a statement: the commit, or the way back.
 #[derive(Clone, Copy, Debug, PartialEq, Eq)]
-pub(crate) enum Close {
+pub enum Close {
     Append,
     Force,
     Acknowledge,
@@ -42,7 +42,7 @@ pub(crate) enum Close {
 
 /// The step that a connection makes next.
 #[derive(Clone, Copy, Debug, PartialEq, Eq)]
-pub(crate) enum Next {
+pub enum Next {
     /// The script has no further statement, and no transaction is open.
     End,
     Begin,
@@ -62,7 +62,9 @@ fn is_through(session: &Session) -> bool
 }
 
 /// A query comes to a row, reads it, and so on to the end.
-fn next_of_scan(scan: &Scan) -> Work {
+fn next_of_scan(scan: &Scan) -> Work
+    ensures { result ≡ next_of_scan scan.now.at }
+{
     match scan.at {
         Where::Lost => Work::Seek,
         Where::At(_) => Work::Read,
@@ -71,7 +73,9 @@ fn next_of_scan(scan: &Scan) -> Work {
 }
 
 /// An INSERT makes room for a row, puts it, and so on behind the last.
-fn next_of_fill(fill: &Fill) -> Work {
+fn next_of_fill(fill: &Fill) -> Work
+    ensures { result ≡ next_of_fill fill.now.rows.items fill.now.has_room }
+{
     if fill.rows.is_empty() {
         Work::Count
     } else if fill.has_room {
@@ -82,7 +86,9 @@ fn next_of_fill(fill: &Fill) -> Work {
 }
 
 /// A CREATE TABLE makes its container, makes room for a catalog row and puts it, and so on behind the last.
-fn next_of_make(make: &Make) -> Build {
+fn next_of_make(make: &Make) -> Build
+    ensures { result ≡ next_of_make make.now }
+{
     let columns = make.def.columns.len();
     if !make.made {
         Build::Make
@@ -98,7 +104,9 @@ fn next_of_make(make: &Make) -> Build {
 }
 
 /// What a bound statement does next.
-fn next_of_plan(plan: &Plan) -> Work {
+fn next_of_plan(plan: &Plan) -> Work
+    ensures { result ≡ next_of_plan plan.now }
+{
     match plan {
         Plan::Select(scan) => next_of_scan(scan),
         Plan::Insert(fill) => next_of_fill(fill),
@@ -109,7 +117,7 @@ fn next_of_plan(plan: &Plan) -> Work {
 
 /// What a connection does next. It ends only where no transaction is open and its script is through.
 pub(crate) fn next_step(session: &Session) -> Next
-    ensures { is_end_of result ≡ ends_now session.now.phase (nat_le (length session.now.spans) session.now.begun) }
+    ensures { result ≡ next_of session.now }
 {
     match session.phase {
         Phase::Idle => if is_through(session) {

@@ -1,39 +1,46 @@
 //! The steps of a query: it comes to its next row, reads it, and is answered at the end.
 
-ghost use Rattle.std.specs.Prelude.{◌≡◌};
+ghost use Rattle.std.specs.Prelude.{◌≡◌, ◌+◌};
 ghost use Rattle.session_engine.specs.Stepped.{Grows, HasStopped, NotEnded, stop_after};
+ghost use Rattle.session_engine.specs.Blocking.{HasWhy};
+ghost use Rattle.session_engine.specs.Pacing.{Paces, next_at};
+ghost use Rattle.session_engine.specs.declared.next.Next.TheVariants.{Work as ToWork};
+ghost use Rattle.session_engine.specs.declared.next.Work.TheVariants.{Answer, Read, Seek};
 
 use crate::asking::starve;
 use crate::engine::{Engine, actor_of, finished, put};
 use crate::follows::{ends, phase_done};
 use crate::scanning::{Saw, Sought, pass, read_row, seek_row, take, told_rows};
 use crate::session::{Phase, Plan, Where};
-use crate::step::{ASTRAY, Event, Step, Why};
+use crate::step::{Event, Step, Why};
 use std::mem;
 use store_api::answers::StoreAnswer;
 use store_api::store::RowStore;
 
 impl<S: RowStore> Engine<S> {
     /// A query comes to the first row behind the one that it has passed last, or to the end.
-    #[tactic(auto, using(crate::proofs::KeptLemmas::kept_scripts, crate::proofs::KeptLemmas::grows_none, crate::proofs::KeptLemmas::goes_noted))]
+    #[tactic(auto, using(crate::proofs::KeptLemmas::kept_scripts, crate::proofs::KeptLemmas::grows_none, crate::proofs::KeptLemmas::goes_noted, crate::proofs::PaceLemmas::paces_done, crate::proofs::PaceLemmas::why_done, crate::proofs::PaceLemmas::acts_frame, crate::proofs::PaceLemmas::paces_blocked, crate::proofs::PaceLemmas::acts_bare, crate::proofs::PaceLemmas::paces_refused, crate::proofs::PaceLemmas::paces_came, crate::proofs::PaceLemmas::came_near, crate::proofs::PaceLemmas::paces_on, crate::proofs::PaceLemmas::replanned, crate::proofs::PaceLemmas::why_withheld))]
     pub(crate) fn seek(&mut self, c: usize) -> Step
+        requires here { next_at self.old.5 c ≡ ToWork Seek }
         ensures same { self.new.0 ≡ self.old.0 }
         ensures grows { Grows result self.old.1 self.new.1 }
         ensures stops { self.new.4 ≡ stop_after result self.old.4 }
         ensures cause { HasStopped result (S.view self.new.3) }
         ensures goes { NotEnded result }
+        ensures paces { Paces c result self.old.5 self.new.5 (S.view self.old.3) (S.view self.new.3) }
+        ensures why { HasWhy (c + 1) result self.new.1 self.new.2 (S.view self.old.3) }
     {
         if c >= self.sessions.len() {
-            return ASTRAY;
+            unreachable!()
         }
         self.store.law();
         let actor = actor_of(c);
         let session = &mut self.sessions[c];
         let Phase::Working = session.phase else {
-            return ASTRAY;
+            unreachable!()
         };
         let Plan::Select(scan) = &mut session.plan else {
-            return ASTRAY;
+            unreachable!()
         };
         match seek_row(&mut self.store, actor, scan.number, scan.after) {
             Ok(Sought::Came(at)) => {
@@ -50,33 +57,36 @@ impl<S: RowStore> Engine<S> {
                 self.owed -= 1;
                 Step::Went(Event::Fix)
             }
-            Err(answer) => self.note(Err(answer), Event::Fix),
+            Err(answer) => self.note(Err(answer), Event::Read),
         }
     }
 
     /// A query reads the row to which it has come.
-    #[tactic(auto, using(crate::proofs::KeptLemmas::kept_scripts, crate::proofs::KeptLemmas::grows_none, crate::proofs::KeptLemmas::goes_noted))]
+    #[tactic(auto, using(crate::proofs::KeptLemmas::kept_scripts, crate::proofs::KeptLemmas::grows_none, crate::proofs::KeptLemmas::goes_noted, crate::proofs::PaceLemmas::paces_done, crate::proofs::PaceLemmas::why_done, crate::proofs::PaceLemmas::acts_frame, crate::proofs::PaceLemmas::paces_blocked, crate::proofs::PaceLemmas::acts_bare, crate::proofs::PaceLemmas::paces_refused, crate::proofs::PaceLemmas::why_withheld))]
     pub(crate) fn read(&mut self, c: usize) -> Step
+        requires here { next_at self.old.5 c ≡ ToWork Read }
         ensures same { self.new.0 ≡ self.old.0 }
         ensures grows { Grows result self.old.1 self.new.1 }
         ensures stops { self.new.4 ≡ stop_after result self.old.4 }
         ensures cause { HasStopped result (S.view self.new.3) }
         ensures goes { NotEnded result }
+        ensures paces { Paces c result self.old.5 self.new.5 (S.view self.old.3) (S.view self.new.3) }
+        ensures why { HasWhy (c + 1) result self.new.1 self.new.2 (S.view self.old.3) }
     {
         if c >= self.sessions.len() {
-            return ASTRAY;
+            unreachable!()
         }
         self.store.law();
         let actor = actor_of(c);
         let session = &mut self.sessions[c];
         let Phase::Working = session.phase else {
-            return ASTRAY;
+            unreachable!()
         };
         let Plan::Select(scan) = &mut session.plan else {
-            return ASTRAY;
+            unreachable!()
         };
         let Where::At(rid) = scan.at else {
-            return ASTRAY;
+            unreachable!()
         };
         match read_row(&mut self.store, actor, scan.number, rid) {
             Ok(Saw::Live(row)) => {
@@ -105,29 +115,32 @@ impl<S: RowStore> Engine<S> {
     }
 
     /// A query has read its whole table, and is answered.
-    #[tactic(auto, using(crate::proofs::KeptLemmas::kept_scripts, crate::proofs::KeptLemmas::grows_none, crate::proofs::KeptLemmas::grows_finished, crate::proofs::KeptLemmas::stops_finished, crate::proofs::KeptLemmas::cause_finished, crate::proofs::KeptLemmas::goes_finished))]
+    #[tactic(auto, using(crate::proofs::KeptLemmas::kept_scripts, crate::proofs::KeptLemmas::grows_none, crate::proofs::KeptLemmas::grows_finished, crate::proofs::KeptLemmas::stops_finished, crate::proofs::KeptLemmas::cause_finished, crate::proofs::KeptLemmas::goes_finished, crate::proofs::PaceLemmas::paces_done, crate::proofs::PaceLemmas::why_done, crate::proofs::PaceLemmas::acts_frame))]
     pub(crate) fn answer(&mut self, c: usize) -> Step
+        requires here { next_at self.old.5 c ≡ ToWork Answer }
         ensures same { self.new.0 ≡ self.old.0 }
         ensures grows { Grows result self.old.1 self.new.1 }
         ensures stops { self.new.4 ≡ stop_after result self.old.4 }
         ensures cause { HasStopped result (S.view self.new.3) }
         ensures goes { NotEnded result }
+        ensures paces { Paces c result self.old.5 self.new.5 (S.view self.old.3) (S.view self.new.3) }
+        ensures why { HasWhy (c + 1) result self.new.1 self.new.2 (S.view self.old.3) }
     {
         if c >= self.sessions.len() {
-            return ASTRAY;
+            unreachable!()
         }
         self.store.law();
         let actor = actor_of(c);
         let place = self.entries.len() as u64;
         let session = &mut self.sessions[c];
         let Phase::Working = session.phase else {
-            return ASTRAY;
+            unreachable!()
         };
         let Plan::Select(scan) = &session.plan else {
-            return ASTRAY;
+            unreachable!()
         };
         let Where::Ended = scan.at else {
-            return ASTRAY;
+            unreachable!()
         };
         self.store.let_go(actor);
         let planned = mem::replace(&mut session.plan, Plan::Nothing);
@@ -138,10 +151,7 @@ impl<S: RowStore> Engine<S> {
                 self.owed -= ends(Phase::Working) - ends(session.phase);
                 finished(session.phase)
             }
-            other => {
-                session.plan = other;
-                Step::Went(Event::Finish)
-            }
+            _ => unreachable!(),
         }
     }
 }

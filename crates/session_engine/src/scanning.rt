@@ -4,7 +4,7 @@ ghost use Rattle.std.specs.Prelude.{◌≡◌, ◌∷◌, [], IfErr, IfOk, OnOk}
 ghost use Rattle.store_api.specs.Effects.{IsDescribed};
 ghost use Rattle.store_api.specs.Frames.{Frame};
 ghost use Rattle.store_api.specs.View.{MayHold};
-ghost use Rattle.session_engine.specs.Scanning.{IsSought, IsSeen, Takes, passed, told_rows};
+ghost use Rattle.session_engine.specs.Scanning.{IsKeptFrom, IsSought, IsSeen, Takes, TurnsTo, passed, told_rows};
 ghost use Rattle.session_engine.specs.Stepped.{KeepsFor};
 
 use crate::session::{Scan, Where};
@@ -43,6 +43,7 @@ pub(crate) fn seek_row<S: RowStore>(
     ensures content { (S.view store.new).content ≡ (S.view store.old).content }
     ensures cause { IfErr result (KeepsFor (S.view store.new)) }
     ensures sought { IfOk result (IsSought (S.view store.old).content.heaps table after) }
+    ensures turns { IfOk result (TurnsTo actor (S.view store.old) (S.view store.new)) }
 {
     let target = Target::Heap { table, after };
     match store.reach(actor, &target) {
@@ -56,7 +57,7 @@ pub(crate) fn seek_row<S: RowStore>(
                 ),
             ) => Ok(Sought::Came(Where::At(rid))),
             Ok(Some(At::End)) => Ok(Sought::Came(Where::Ended)),
-            Ok(None) => Ok(Sought::Onward),
+            Ok(None) => unreachable!(),
             Err(answer) => Err(answer),
         },
         Ok(Moved::Onward) => Ok(Sought::Onward),
@@ -89,6 +90,7 @@ pub(crate) fn read_row<S: RowStore>(
     ensures content { (S.view store.new).content ≡ (S.view store.old).content }
     ensures cause { IfErr result (KeepsFor (S.view store.new)) }
     ensures saw { IfOk result (IsSeen (S.view store.old).content.heaps table rid) }
+    ensures kept { IfOk result (IsKeptFrom actor (S.view store.old)) }
 {
     match store.row(actor, table, rid) {
         Ok(RowRead::Row { row, marked }) => if marked {

@@ -51,6 +51,3 @@ pub enum Step {
     /// There was no memory to begin a statement, and nothing changed.
     Memory,
 }
-
-/// A connection that isn't where a step begins makes no such step, and nothing changes; no caller comes there.
-pub(crate) const ASTRAY: Step = Step::Went(Event::LetGo);

@@ -1,6 +1,6 @@
 //! The text of a statement, and what it asks for.
 
-ghost use Rattle.std.specs.Prelude.{◌≡◌, ◌+◌, ◌<◌, ◌≤◌, ◌^◌, length, IfOk, IfSome, slice_get};
+ghost use Rattle.std.specs.Prelude.{◌≡◌, ◌+◌, ◌<◌, ◌≤◌, ◌^◌, length, IfNone, IfOk, IfSome, slice_get};
 ghost use Rattle.sql_lexer.specs.Splitting.{bytes_of, spans_of, statements_of};
 ghost use Rattle.session_model.specs.Orders.{order_of};
 
@@ -29,6 +29,7 @@ pub(crate) fn statement(
 ) -> Result<Option<Txt>, AllocError>
     requires { spans.now ≡ spans_of script.now }
     ensures text { IfOk result (λ t. t ≡ slice_get (statements_of script.now) n) }
+    ensures past { IfOk result (λ t. IfNone t (length spans.now ≤ n)) }
     ensures small { IfOk result (λ t. IfSome t (λ x. n + 1 < 2 ^ 64)) }
 {
     spans_in_order(script.as_slice());

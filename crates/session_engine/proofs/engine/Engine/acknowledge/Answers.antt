@@ -6,6 +6,7 @@ use Rattle.session_engine.specs.State.{ends_in, opens}
 use Rattle.session_engine.specs.Engine.{state}
 use Rattle.session_engine.proofs.RoomLemmas.{room_for, releases_for, room_after}
 use Rattle.session_engine.proofs.EndLemmas.{acknowledges}
+use Rattle.session_engine.proofs.SpentLemmas.{spent_idle}
 use Rattle.session_engine.proofs.engine.Engine.acknowledge.Goals as goal
 
 pub put-requires : goal.put-requires
@@ -39,8 +40,8 @@ release-requires-clause-room g c =
     let one = releases_for c.self.inside.entries c.self.inside.events c.self.inside.sessions.items (lock c.self.inside.locks) c.self.inside.owed c.self.inside.owed_events c.args.c r c.self.invariant.room lt c.index_mut-session.ensures.value in
     omega (arith, one.1, needs)
 
-pub invariant_of-self-2 : goal.invariant_of-self-2
-invariant_of-self-2 g c =
+pub invariant_of-self : goal.invariant_of-self
+invariant_of-self g c =
     let lt : c.args.c < length c.self.inside.sessions.items = omega arith in
     let r = c.index_mut-session.result.now in
     let at = c.index_mut-session.ensures.value in
@@ -71,4 +72,5 @@ invariant_of-self-2 g c =
           c.self.inside.owed c.self.inside.owed_events (c.self.inside.owed - (c.len-2.result + 1)) (c.self.inside.owed_events - 1) c.args.c r c.idle.new.session c.self.invariant.room lt at
           (omega (arith, needs, len, empty, phase, room.0)) (omega (arith, needs_event, phase_event, one.0)) (omega (arith, put_len, put_cap, room.0, fit)) (omega (arith, freed_room, freed_cap, fit_events, one.0, needs_event));
       woken = c.release.ensures.none;
+      spent = spent_idle c.self.inside.sessions.items c.args.c r _ c.idle.new.session lt at c.idle.ensures refl c.self.invariant.spent;
     }

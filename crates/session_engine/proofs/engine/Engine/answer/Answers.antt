@@ -6,6 +6,7 @@ use Rattle.session_engine.specs.Engine.{state}
 use Rattle.session_engine.proofs.ReadLemmas.{Reading, answers_rows, working_owes, ended_of}
 use Rattle.session_engine.proofs.RoomLemmas.{room_after}
 use Rattle.session_engine.proofs.TellLemmas.{done_ends}
+use Rattle.session_engine.proofs.SpentLemmas.{itself, spent_kept}
 use Rattle.session_engine.proofs.engine.Engine.answer.Goals as goal
 
 pub put-requires : goal.put-requires
@@ -21,8 +22,8 @@ overflow_sub-self-in-Select-planned g c =
     let three = c.ends.ensures.exact in
     omega (arith, one, three)
 
-pub invariant_of-self-in-Select-planned : goal.invariant_of-self-in-Select-planned
-invariant_of-self-in-Select-planned g c =
+pub invariant_of-self : goal.invariant_of-self
+invariant_of-self g c =
     let lt : c.args.c < length c.self.inside.sessions.items = omega arith in
     let st = state c.self.inside.entries c.self.inside.events c.self.inside.locks c.self.inside.sessions.items (g.S.RowStore.view c.self.inside.store) c.self.inside.tables.entries in
     let r = c.index_mut-session.result.now in
@@ -52,4 +53,5 @@ invariant_of-self-in-Select-planned g c =
           c.self.inside.owed c.self.inside.owed_events (c.self.inside.owed - (c.ends.result - c.ends-in-Select-planned.result)) c.self.inside.owed_events c.args.c r _ c.self.invariant.room lt at
           (omega (arith, needs, three, then, left.0, left.1, one.0)) (omega (arith, needs_event, left.2)) (omega (arith, fit, len, cap, three, then, left.0, left.1, one.0)) c.self.invariant.room.events_fit;
       woken = c.self.invariant.woken;
+      spent = spent_kept c.self.inside.sessions.items c.args.c r _ lt at (itself r.closed) (itself r.spans) (itself r.begun) c.self.invariant.spent;
     }

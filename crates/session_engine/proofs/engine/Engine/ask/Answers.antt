@@ -6,6 +6,8 @@ use Rattle.lock_modes.specs.Proper.{IsRefused, MayHave}
 use Rattle.session_engine.specs.Engine.{state}
 use Rattle.session_engine.proofs.RoomLemmas.{room_for, room_after}
 use Rattle.session_engine.proofs.WantLemmas.{asks_at_once, asks_and_waits, wakes, starves, unblocked_idle, wanted_ends, queue_longer, queue_no_longer}
+use Rattle.session_engine.specs.declared.session.Session.{Session}
+use Rattle.session_engine.proofs.SpentLemmas.{itself, spent_kept}
 use Rattle.session_engine.proofs.engine.Engine.ask.Goals as goal
 
 pub invariant_of-self-then-session : goal.invariant_of-self-then-session
@@ -23,6 +25,7 @@ invariant_of-self-then-session g c =
           c.self.inside.owed c.self.inside.owed_events c.self.inside.owed c.self.inside.owed_events c.args.c r _ c.self.invariant.room lt at
           (omega (arith, ends.0, ends.2)) (omega (arith, ends.1, ends.3)) c.self.invariant.room.entries_fit c.self.invariant.room.events_fit);
       woken = c.self.invariant.woken;
+      spent = spent_kept c.self.inside.sessions.items c.args.c r _ lt at (itself r.closed) (itself r.spans) (itself r.begun) c.self.invariant.spent;
     }
 
 pub overflow_sub-self : goal.overflow_sub-self
@@ -50,6 +53,7 @@ invariant_of-self-in_default-room g c =
           c.self.inside.owed c.self.inside.owed_events (c.self.inside.owed - 1) c.self.inside.owed_events c.args.c r _ c.self.invariant.room lt at
           (omega (arith, ends.0, one)) (omega (arith, ends.1)) (omega (arith, fit)) (omega (arith, kept.0, kept.1, fit_events)));
       woken = c.room_to_ask-room.ensures.woken ∙ c.self.invariant.woken;
+      spent = spent_kept c.self.inside.sessions.items c.args.c r c.starve.new.session lt at (ap (λ (x : Session). x.closed) c.starve.ensures) (ap (λ (x : Session). x.spans) c.starve.ensures) (ap (λ (x : Session). x.begun) c.starve.ensures) c.self.invariant.spent;
     }
 
 pub invariant_of-self-in-Granted : goal.invariant_of-self-in-Granted
@@ -75,6 +79,7 @@ invariant_of-self-in-Granted g c =
           c.self.inside.owed c.self.inside.owed_events c.self.inside.owed c.self.inside.owed_events c.args.c r _ c.self.invariant.room lt at
           (omega (arith, ends.0, ends.2)) (omega (arith, ends.1, ends.3)) fit (omega (arith, room.0, waiters, shorter, len, cap)));
       woken = c.in-Granted.ensures.woken ∙ c.in-Ok.ensures.woken ∙ c.self.invariant.woken;
+      spent = spent_kept c.self.inside.sessions.items c.args.c r _ lt at (itself r.closed) (itself r.spans) (itself r.begun) c.self.invariant.spent;
     }
 
 pub enqueue-requires-clause-room : goal.enqueue-requires-clause-room
@@ -108,4 +113,5 @@ invariant_of-self-in-Conflict g c =
           c.self.inside.owed c.self.inside.owed_events c.self.inside.owed c.self.inside.owed_events c.args.c r _ c.self.invariant.room lt at
           refl refl fit (omega (arith, room.0, waiters, longer, len, cap)));
       woken = c.enqueue.ensures.woken ∙ c.in-Conflict.ensures.woken ∙ c.in-Ok.ensures.woken ∙ c.self.invariant.woken;
+      spent = spent_kept c.self.inside.sessions.items c.args.c r _ lt at (itself r.closed) (itself r.spans) (itself r.begun) c.self.invariant.spent;
     }

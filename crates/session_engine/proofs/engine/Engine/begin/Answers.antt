@@ -7,6 +7,8 @@ use Rattle.session_engine.proofs.CountLemmas.{may_begin}
 use Rattle.session_engine.proofs.RoomLemmas.{room_after}
 use Rattle.session_engine.proofs.StepLemmas.{kept_content, still_engine}
 use Rattle.session_engine.proofs.StartLemmas.{first_statement, turned, idle_made, begun_opens}
+use Rattle.session_engine.specs.declared.session.Session.{Session}
+use Rattle.session_engine.proofs.SpentLemmas.{spent_open}
 use Rattle.session_engine.proofs.engine.Engine.begin.Goals as goal
 
 pub begin-requires-clause-few : goal.begin-requires-clause-few
@@ -41,6 +43,7 @@ invariant_of-self-in-Ok-begin g c =
           c.self.inside.owed c.self.inside.owed_events (c.self.inside.owed + c.ends.result) (c.self.inside.owed_events + 1) c.args.c r c.start.new.session c.self.invariant.room lt at
           (omega (arith, empty, was, ends, made)) (omega (arith, shut, opened)) (let fit = room.entries_fit in omega (arith, fit, len, cap, few)) (let fit = room.events_fit in omega (arith, fit, waiters));
       woken = c.self.invariant.woken;
+      spent = spent_open c.self.inside.sessions.items c.args.c c.start.new.session (ap (λ (x : Session). x.closed) c.start.ensures ∙ c.in-false.is) c.self.invariant.spent;
     }
 
 pub invariant_of-self-in-Err-Full : goal.invariant_of-self-in-Err-Full
@@ -74,6 +77,7 @@ invariant_of-self-in-Err-Full g c =
           c.self.inside.owed c.self.inside.owed_events (c.self.inside.owed + 1) (c.self.inside.owed_events + 1) c.args.c r c.turn_away.new.session c.self.invariant.room lt at
           (omega (arith, empty, was, now, made)) (omega (arith, shut, opened)) (let fit = room.entries_fit in omega (arith, fit, len, cap, len2, cap2)) (let fit = room.events_fit in omega (arith, fit, waiters));
       woken = c.self.invariant.woken;
+      spent = spent_open c.self.inside.sessions.items c.args.c c.turn_away.new.session (ap (λ (x : Session). x.closed) c.turn_away.ensures ∙ c.in-false.is) c.self.invariant.spent;
     }
 
 pub invariant_of-self-in-Err : goal.invariant_of-self-in-Err

@@ -4,6 +4,7 @@ use Rattle.session_engine.specs.State.{ends_in, opens}
 use Rattle.session_engine.specs.Engine.{state}
 use Rattle.session_engine.proofs.RoomLemmas.{room_for, room_after}
 use Rattle.session_engine.proofs.TellLemmas.{commands, told_opens, told_at_most}
+use Rattle.session_engine.proofs.SpentLemmas.{itself, spent_kept}
 use Rattle.session_engine.proofs.engine.Engine.command.Goals as goal
 
 pub put-requires : goal.put-requires
@@ -21,8 +22,8 @@ overflow_sub-self-2 g c =
     let room = room_for c.self.inside.entries c.self.inside.events c.self.inside.sessions.items (lock c.self.inside.locks) c.self.inside.owed c.self.inside.owed_events c.args.c 3 c.index_mut-session.result.now c.self.invariant.room lt c.index_mut-session.ensures.value (omega (arith, needs)) in
     omega (arith, room.0, three)
 
-pub invariant_of-self-2 : goal.invariant_of-self-2
-invariant_of-self-2 g c =
+pub invariant_of-self : goal.invariant_of-self
+invariant_of-self g c =
     let lt : c.args.c < length c.self.inside.sessions.items = omega arith in
     let r = c.index_mut-session.result.now in
     let at = c.index_mut-session.ensures.value in
@@ -46,4 +47,5 @@ invariant_of-self-2 g c =
           c.self.inside.owed c.self.inside.owed_events (c.self.inside.owed - (c.ends.result - c.ends-2.result)) c.self.inside.owed_events c.args.c r _ c.self.invariant.room lt at
           (omega (arith, needs, three, then, left, room.0)) (omega (arith, opened, left_event)) (omega (arith, three, then, left, put_len, put_cap, room.0, fit)) c.self.invariant.room.events_fit;
       woken = c.self.invariant.woken;
+      spent = spent_kept c.self.inside.sessions.items c.args.c r _ lt at (itself r.closed) (itself r.spans) (itself r.begun) c.self.invariant.spent;
     }

@@ -33,8 +33,8 @@ put_row-requires-clause-fits g c =
     let stored = fill_stored st c.self.inside.last c.args.c r took.fill took.left c.in-Some.row h took.pops in
     (stored.0, ap (g.S.RowStore.view c.self.inside.store).content.columns took.number_is ∙ stored.1, stored.2)
 
-pub invariant_of-self-in_default-room_to_change : goal.invariant_of-self-in_default-room_to_change
-invariant_of-self-in_default-room_to_change g c =
+pub invariant_of-self : goal.invariant_of-self
+invariant_of-self g c =
     let lt : c.args.c < length c.self.inside.sessions.items = omega arith in
     let st = state c.self.inside.entries c.self.inside.events c.self.inside.locks c.self.inside.sessions.items (g.S.RowStore.view c.self.inside.store) c.self.inside.tables.entries in
     let r = c.index_mut-session.result.now in
@@ -49,7 +49,7 @@ invariant_of-self-in_default-room_to_change g c =
     let fit = c.self.invariant.room.entries_fit in
     let same : c.room_to_change.new.made.items ≡ r.made.items = c.room_to_change.ensures.made ∙ ap (λ s. s.made.items) took.after in
     let size = ap length same in
-    rw (c.starve.ensures, took.after) (engine_with c.self.inside.entries c.room_to_change.new.entries c.self.inside.events c.self.inside.locks c.self.inside.sessions.items (g.S.RowStore.view c.self.inside.store) (g.S.RowStore.view c.self.inside.store) c.self.inside.tables.entries c.self.inside.last c.self.inside.owed (c.self.inside.owed - 1) c.self.inside.owed_events c.args.c r _ c.self.invariant lt at
+    rw (c.starve.ensures, took.after) (engine_with c.self.inside.entries c.room_to_change.new.entries c.self.inside.events c.self.inside.locks c.self.inside.sessions.items (g.S.RowStore.view c.self.inside.store) (g.S.RowStore.view c.self.inside.store) c.self.inside.tables.entries c.self.inside.last c.self.inside.owed (c.self.inside.owed - 1) c.self.inside.owed_events c.args.c r _ c.self.invariant lt at refl
     (omega (arith, needs, one, size)) (omega (arith, opened)) (omega (arith, fit, kept.0, kept.1, one))
     (rw c.room_to_change.ensures.entries (fill_starves st c.self.inside.last c.args.c r took.fill c.room_to_change.new.made (g.S.RowStore.view c.self.inside.store) h (record { content = refl; others = λ b ne. refl; limit_same = refl }) same)))
 
@@ -69,7 +69,7 @@ invariant_of-self-in-Err g c =
     let fit = c.self.invariant.room.entries_fit in
     let same : c.room_to_change.new.made.items ≡ r.made.items = c.room_to_change.ensures.made ∙ ap (λ s. s.made.items) took.after in
     let size = ap length same in
-    rw (c.starve-in-Err.ensures, took.after) (engine_with c.self.inside.entries c.room_to_change.new.entries c.self.inside.events c.self.inside.locks c.self.inside.sessions.items (g.S.RowStore.view c.self.inside.store) (g.S.RowStore.view c.put_row.new.self) c.self.inside.tables.entries c.self.inside.last c.self.inside.owed (c.self.inside.owed - 1) c.self.inside.owed_events c.args.c r _ c.self.invariant lt at
+    rw (c.starve-in-Err.ensures, took.after) (engine_with c.self.inside.entries c.room_to_change.new.entries c.self.inside.events c.self.inside.locks c.self.inside.sessions.items (g.S.RowStore.view c.self.inside.store) (g.S.RowStore.view c.put_row.new.self) c.self.inside.tables.entries c.self.inside.last c.self.inside.owed (c.self.inside.owed - 1) c.self.inside.owed_events c.args.c r _ c.self.invariant lt at refl
     (omega (arith, needs, one, size)) (omega (arith, opened)) (omega (arith, fit, kept.0, kept.1, one))
     (rw c.room_to_change.ensures.entries (fill_starves st c.self.inside.last c.args.c r took.fill c.room_to_change.new.made (g.S.RowStore.view c.put_row.new.self) h (record { content = kept_content _ _ _ _ _ _ c.in-Err.ensures.err; others = λ b ne. c.in-Err.ensures.frame.others b (λ e. ne (e ∙ actor)); limit_same = c.in-Err.ensures.frame.limit_same }) same)))
 
@@ -100,7 +100,7 @@ invariant_of-self-in-Ok-put_row g c =
     let es : c.put-in-Ok-put_row.new.items.items ≡ c.self.inside.entries.items ++ inserted c.index_mut-session.result.now.txn took.fill.number c.in-Ok-put_row.rid c.in-Some.row ∷ [] =
     c.put-in-Ok-put_row.ensures.items ∙ ap (λ xs. xs ++ c.inserted.result ∷ []) c.in-Ok.ensures.entries
     ∙ ap (λ e. c.self.inside.entries.items ++ e ∷ []) (c.inserted.ensures ∙ ap (λ t. inserted t c.in-Some.number c.in-Ok-put_row.rid c.in-Some.row) txn ∙ ap (λ n. inserted c.index_mut-session.result.now.txn n c.in-Ok-put_row.rid c.in-Some.row) took.number_is) in
-    rw took.after (engine_with c.self.inside.entries c.put-in-Ok-put_row.new.items c.self.inside.events c.self.inside.locks c.self.inside.sessions.items (g.S.RowStore.view c.self.inside.store) (g.S.RowStore.view c.put_row.new.self) c.self.inside.tables.entries c.self.inside.last c.self.inside.owed (c.self.inside.owed + 1) c.self.inside.owed_events c.args.c r _ c.self.invariant lt at
+    rw took.after (engine_with c.self.inside.entries c.put-in-Ok-put_row.new.items c.self.inside.events c.self.inside.locks c.self.inside.sessions.items (g.S.RowStore.view c.self.inside.store) (g.S.RowStore.view c.put_row.new.self) c.self.inside.tables.entries c.self.inside.last c.self.inside.owed (c.self.inside.owed + 1) c.self.inside.owed_events c.args.c r _ c.self.invariant lt at refl
     (omega (arith, needs, size, more)) (omega (arith, opened)) (omega (arith, room.0, len, cap))
     (rw es ((fill_puts st c.self.inside.last c.args.c c.len-did.result r took.fill took.left c.put.new.items c.in-Ok-put_row.rid c.in-Some.row (g.S.RowStore.view c.put_row.new.self) h
     took.pops.rest took.pops.rows pushed here none stored (λ b ne. c.in-Ok-put_row.ensures.frame.others b (λ e. ne (e ∙ actor))) c.in-Ok-put_row.ensures.frame.limit_same))))

@@ -5,6 +5,7 @@ use Rattle.session_engine.specs.State.{ends_in, opens}
 use Rattle.session_engine.specs.Engine.{state}
 use Rattle.session_engine.proofs.RoomLemmas.{room_after}
 use Rattle.session_engine.proofs.StepLemmas.{forced, still_store, stored_after, same_session}
+use Rattle.session_engine.proofs.SpentLemmas.{itself, spent_kept}
 use Rattle.session_engine.proofs.engine.Engine.force.Goals as goal
 
 pub invariant_of-self : goal.invariant_of-self
@@ -24,6 +25,7 @@ invariant_of-self g c =
           c.self.inside.owed c.self.inside.owed_events c.self.inside.owed c.self.inside.owed_events c.args.c r _ c.self.invariant.room lt at
           (omega (arith, one)) (omega (arith, open_one)) c.self.invariant.room.entries_fit c.self.invariant.room.events_fit;
       woken = c.self.invariant.woken;
+      spent = spent_kept c.self.inside.sessions.items c.args.c r _ lt at (itself r.closed) (itself r.spans) (itself r.begun) c.self.invariant.spent;
     }
 
 pub invariant_of-self-else-is_ok : goal.invariant_of-self-else-is_ok
@@ -34,4 +36,5 @@ invariant_of-self-else-is_ok g c = record {
       c.force-answer.ensures.frame.everyone c.force-answer.ensures.frame.limit_same c.self.invariant.holds;
   room = c.self.invariant.room;
   woken = c.self.invariant.woken;
+  spent = c.self.invariant.spent;
 }

@@ -12,6 +12,7 @@ use Rattle.session_engine.proofs.RoomLemmas.{room_for, releases_for, room_after}
 use Rattle.session_engine.proofs.StepLemmas.{stored_after, refused_content}
 use Rattle.session_engine.proofs.ContainerLemmas.{leaves_container}
 use Rattle.session_engine.proofs.EndLemmas.{undoes_transaction, rolls_back, closes, leaves_pages, leaves_done}
+use Rattle.session_engine.proofs.SpentLemmas.{itself, spent_idle, spent_kept}
 use Rattle.session_engine.proofs.engine.Engine.leave.Goals as goal
 
 pub undo_one-requires-clause-few : goal.undo_one-requires-clause-few
@@ -31,8 +32,8 @@ overflow_sub-self g c =
     let needs : ends_in c.index_mut-session.result.now.phase ≡ 1 = ap ends_in c.in-Leaving.is in
     (room_for c.self.inside.entries c.self.inside.events c.self.inside.sessions.items (lock c.self.inside.locks) c.self.inside.owed c.self.inside.owed_events c.args.c 1 c.index_mut-session.result.now c.self.invariant.room lt c.index_mut-session.ensures.value (omega (arith, needs))).0
 
-pub invariant_of-self-in-Some : goal.invariant_of-self-in-Some
-invariant_of-self-in-Some g c =
+pub invariant_of-self : goal.invariant_of-self
+invariant_of-self g c =
     let lt : c.args.c < length c.self.inside.sessions.items = omega arith in
     let r = c.index_mut-session.result.now in
     let at = c.index_mut-session.ensures.value in
@@ -55,6 +56,7 @@ invariant_of-self-in-Some g c =
           c.self.inside.owed c.self.inside.owed_events (c.self.inside.owed - 1) c.self.inside.owed_events c.args.c r _ c.self.invariant.room lt at
           (omega (arith, fewer, room.0)) (omega arith) (omega (arith, put_len, put_cap, room.0, fit)) c.self.invariant.room.events_fit;
       woken = c.self.invariant.woken;
+      spent = spent_kept c.self.inside.sessions.items c.args.c r _ lt at (itself r.closed) (itself r.spans) (itself r.begun) c.self.invariant.spent;
     }
 
 pub put-requires-in-Ok-Done : goal.put-requires-in-Ok-Done
@@ -129,6 +131,7 @@ invariant_of-self-in-Ok-Done g c =
           c.self.inside.owed c.self.inside.owed_events (c.self.inside.owed - (c.len-in-Ok-Done.result + 1)) (c.self.inside.owed_events - 1) c.args.c r c.idle.new.session c.self.invariant.room lt at
           (omega (arith, needs, len, empty, phase, room.0)) (omega (arith, needs_event, phase_event, one.0)) (omega (arith, put_len, put_cap, room.0, fit)) (omega (arith, freed_room, freed_cap, fit_events, one.0, needs_event));
       woken = c.release.ensures.none;
+      spent = spent_idle c.self.inside.sessions.items c.args.c r _ c.idle.new.session lt at c.idle.ensures refl c.self.invariant.spent;
     }
 
 pub invariant_of-self-in-Ok-Onward : goal.invariant_of-self-in-Ok-Onward
@@ -142,6 +145,7 @@ invariant_of-self-in-Ok-Onward g c =
       room = room_after c.self.inside.entries c.self.inside.entries c.self.inside.events c.self.inside.events c.self.inside.sessions.items (lock c.self.inside.locks) (lock c.self.inside.locks)
           c.self.inside.owed c.self.inside.owed_events c.self.inside.owed c.self.inside.owed_events c.args.c c.index_mut-session.result.now c.index_mut-session.result.now c.self.invariant.room lt c.index_mut-session.ensures.value refl refl c.self.invariant.room.entries_fit c.self.invariant.room.events_fit;
       woken = c.self.invariant.woken;
+      spent = spent_kept c.self.inside.sessions.items c.args.c c.index_mut-session.result.now _ lt c.index_mut-session.ensures.value (itself c.index_mut-session.result.now.closed) (itself c.index_mut-session.result.now.spans) (itself c.index_mut-session.result.now.begun) c.self.invariant.spent;
     }
 
 pub invariant_of-self-in-Ok-UndidContainer : goal.invariant_of-self-in-Ok-UndidContainer
@@ -156,6 +160,7 @@ invariant_of-self-in-Ok-UndidContainer g c =
       room = room_after c.self.inside.entries c.self.inside.entries c.self.inside.events c.self.inside.events c.self.inside.sessions.items (lock c.self.inside.locks) (lock c.self.inside.locks)
           c.self.inside.owed c.self.inside.owed_events c.self.inside.owed c.self.inside.owed_events c.args.c c.index_mut-session.result.now c.index_mut-session.result.now c.self.invariant.room lt c.index_mut-session.ensures.value refl refl c.self.invariant.room.entries_fit c.self.invariant.room.events_fit;
       woken = c.self.invariant.woken;
+      spent = spent_kept c.self.inside.sessions.items c.args.c c.index_mut-session.result.now _ lt c.index_mut-session.ensures.value (itself c.index_mut-session.result.now.closed) (itself c.index_mut-session.result.now.spans) (itself c.index_mut-session.result.now.begun) c.self.invariant.spent;
     }
 
 pub invariant_of-self-in-Ok-Held : goal.invariant_of-self-in-Ok-Held
@@ -169,6 +174,7 @@ invariant_of-self-in-Ok-Held g c =
       room = room_after c.self.inside.entries c.self.inside.entries c.self.inside.events c.self.inside.events c.self.inside.sessions.items (lock c.self.inside.locks) (lock c.self.inside.locks)
           c.self.inside.owed c.self.inside.owed_events c.self.inside.owed c.self.inside.owed_events c.args.c c.index_mut-session.result.now c.index_mut-session.result.now c.self.invariant.room lt c.index_mut-session.ensures.value refl refl c.self.invariant.room.entries_fit c.self.invariant.room.events_fit;
       woken = c.self.invariant.woken;
+      spent = spent_kept c.self.inside.sessions.items c.args.c c.index_mut-session.result.now _ lt c.index_mut-session.ensures.value (itself c.index_mut-session.result.now.closed) (itself c.index_mut-session.result.now.spans) (itself c.index_mut-session.result.now.begun) c.self.invariant.spent;
     }
 
 pub invariant_of-self-in-Err : goal.invariant_of-self-in-Err
@@ -182,4 +188,5 @@ invariant_of-self-in-Err g c =
       room = room_after c.self.inside.entries c.self.inside.entries c.self.inside.events c.self.inside.events c.self.inside.sessions.items (lock c.self.inside.locks) (lock c.self.inside.locks)
           c.self.inside.owed c.self.inside.owed_events c.self.inside.owed c.self.inside.owed_events c.args.c c.index_mut-session.result.now c.index_mut-session.result.now c.self.invariant.room lt c.index_mut-session.ensures.value refl refl c.self.invariant.room.entries_fit c.self.invariant.room.events_fit;
       woken = c.self.invariant.woken;
+      spent = spent_kept c.self.inside.sessions.items c.args.c c.index_mut-session.result.now _ lt c.index_mut-session.ensures.value (itself c.index_mut-session.result.now.closed) (itself c.index_mut-session.result.now.spans) (itself c.index_mut-session.result.now.begun) c.self.invariant.spent;
     }

@@ -64,8 +64,8 @@ put_row-requires-clause-fits g c =
     let stored = list_stored st c.self.inside.last c.args.c r took.make h put.0.takes.made put.0.all in
     (stored.0, stored.1, ap (fits_columns stored.0) put.1.row ∙ stored.2)
 
-pub invariant_of-self-in_default-ready : goal.invariant_of-self-in_default-ready
-invariant_of-self-in_default-ready g c =
+pub invariant_of-self : goal.invariant_of-self
+invariant_of-self g c =
     let lt : c.args.c < length c.self.inside.sessions.items = omega arith in
     let st = state c.self.inside.entries c.self.inside.events c.self.inside.locks c.self.inside.sessions.items (g.S.RowStore.view c.self.inside.store) c.self.inside.tables.entries in
     let r = c.index_mut-session.result.now in
@@ -80,7 +80,7 @@ invariant_of-self-in_default-ready g c =
     let fit = c.self.invariant.room.entries_fit in
     let same : c.ready.new.made.items ≡ r.made.items = c.ready.ensures.made ∙ ap (λ s. s.made.items) took.after in
     let size = ap length same in
-    rw (c.ready_to_list-roomy.ensures.tables, c.starve.ensures, took.after) (engine_with c.self.inside.entries c.ready.new.entries c.self.inside.events c.self.inside.locks c.self.inside.sessions.items (g.S.RowStore.view c.self.inside.store) (g.S.RowStore.view c.self.inside.store) c.self.inside.tables.entries c.self.inside.last c.self.inside.owed (c.self.inside.owed - 1) c.self.inside.owed_events c.args.c r _ c.self.invariant lt at
+    rw (c.ready_to_list-roomy.ensures.tables, c.starve.ensures, took.after) (engine_with c.self.inside.entries c.ready.new.entries c.self.inside.events c.self.inside.locks c.self.inside.sessions.items (g.S.RowStore.view c.self.inside.store) (g.S.RowStore.view c.self.inside.store) c.self.inside.tables.entries c.self.inside.last c.self.inside.owed (c.self.inside.owed - 1) c.self.inside.owed_events c.args.c r _ c.self.invariant lt at refl
     (omega (arith, needs, one, size)) (omega (arith, opened)) (omega (arith, fit, kept.0, kept.1, one))
     (rw c.ready.ensures.entries (make_starves st c.self.inside.last c.args.c r took.make c.ready.new.made (g.S.RowStore.view c.self.inside.store) h (record { content = refl; others = λ b ne. refl; limit_same = refl }) same)))
 
@@ -100,7 +100,7 @@ invariant_of-self-in-Err g c =
     let fit = c.self.invariant.room.entries_fit in
     let same : c.ready.new.made.items ≡ r.made.items = c.ready.ensures.made ∙ ap (λ s. s.made.items) took.after in
     let size = ap length same in
-    rw (c.ready_to_list-roomy.ensures.tables, c.starve-in-Err.ensures, took.after) (engine_with c.self.inside.entries c.ready.new.entries c.self.inside.events c.self.inside.locks c.self.inside.sessions.items (g.S.RowStore.view c.self.inside.store) (g.S.RowStore.view c.put_row.new.self) c.self.inside.tables.entries c.self.inside.last c.self.inside.owed (c.self.inside.owed - 1) c.self.inside.owed_events c.args.c r _ c.self.invariant lt at
+    rw (c.ready_to_list-roomy.ensures.tables, c.starve-in-Err.ensures, took.after) (engine_with c.self.inside.entries c.ready.new.entries c.self.inside.events c.self.inside.locks c.self.inside.sessions.items (g.S.RowStore.view c.self.inside.store) (g.S.RowStore.view c.put_row.new.self) c.self.inside.tables.entries c.self.inside.last c.self.inside.owed (c.self.inside.owed - 1) c.self.inside.owed_events c.args.c r _ c.self.invariant lt at refl
     (omega (arith, needs, one, size)) (omega (arith, opened)) (omega (arith, fit, kept.0, kept.1, one))
     (rw c.ready.ensures.entries (make_starves st c.self.inside.last c.args.c r took.make c.ready.new.made (g.S.RowStore.view c.put_row.new.self) h (record { content = kept_content _ _ _ _ _ _ c.in-Err.ensures.err; others = λ b ne. c.in-Err.ensures.frame.others b (λ e. ne (e ∙ actor)); limit_same = c.in-Err.ensures.frame.limit_same }) same)))
 
@@ -143,6 +143,6 @@ invariant_of-self-in-Ok-put_row g c =
     let es : c.put-in-Ok-put_row.new.items.items ≡ c.self.inside.entries.items ++ inserted c.index_mut-session.result.now.txn 1 c.in-Ok-put_row.rid (table_row took.make.def.number took.make.def.name) ∷ [] =
     c.put-in-Ok-put_row.ensures.items ∙ ap (λ xs. xs ++ c.inserted.result ∷ []) c.in-Ok.ensures.entries
     ∙ ap (λ e. c.self.inside.entries.items ++ e ∷ []) (c.inserted.ensures ∙ ap (λ t. inserted t 1 c.in-Ok-put_row.rid c.in-Ok.listing.row) txn ∙ ap (λ x. inserted c.index_mut-session.result.now.txn 1 c.in-Ok-put_row.rid x) put.1.row) in
-    rw (took.after, put.0.takes.after, c.enlist.ensures, c.ready_to_list-roomy.ensures.tables, put.1.name, put.1.defined) (engine_listing c.self.inside.entries c.put-in-Ok-put_row.new.items c.self.inside.events c.self.inside.locks c.self.inside.sessions.items (g.S.RowStore.view c.self.inside.store) (g.S.RowStore.view c.put_row.new.self) c.self.inside.tables.entries (c.self.inside.tables.entries ++ entry_of took.make ∷ []) c.self.inside.last c.self.inside.owed (c.self.inside.owed + 1) c.self.inside.owed_events c.args.c r _ c.self.invariant lt at
+    rw (took.after, put.0.takes.after, c.enlist.ensures, c.ready_to_list-roomy.ensures.tables, put.1.name, put.1.defined) (engine_listing c.self.inside.entries c.put-in-Ok-put_row.new.items c.self.inside.events c.self.inside.locks c.self.inside.sessions.items (g.S.RowStore.view c.self.inside.store) (g.S.RowStore.view c.put_row.new.self) c.self.inside.tables.entries (c.self.inside.tables.entries ++ entry_of took.make ∷ []) c.self.inside.last c.self.inside.owed (c.self.inside.owed + 1) c.self.inside.owed_events c.args.c r _ c.self.invariant lt at refl
     (omega (arith, needs, size, more)) (omega (arith, opened)) (omega (arith, room.0, len, cap))
     (rw es (lists st c.self.inside.last c.args.c c.len-did.result r took.make c.put.new.items c.in-Ok-put_row.rid (g.S.RowStore.view c.put_row.new.self) h put.0.takes.made put.0.all pushed here puts.none stored (λ b ne. c.in-Ok-put_row.ensures.frame.others b (λ e. ne (e ∙ actor))) c.in-Ok-put_row.ensures.frame.limit_same)))

@@ -48,8 +48,8 @@ new_heap-requires-clause-short g c =
     let h : Making st c.self.inside.last c.args.c c.index_mut-session.result.now c.in-Some.make = record { within = lt; at = at; phase = c.in-Working.is; planned = took.planned; holds = c.self.invariant.holds } in
     make_short st c.self.inside.last c.args.c r c.in-Some.make h
 
-pub invariant_of-self-in-Ok-Made : goal.invariant_of-self-in-Ok-Made
-invariant_of-self-in-Ok-Made g c =
+pub invariant_of-self : goal.invariant_of-self
+invariant_of-self g c =
     let lt : c.args.c < length c.self.inside.sessions.items = omega arith in
     let st = state_of c.self.inside.entries c.self.inside.events c.self.inside.locks c.self.inside.sessions.items (g.S.RowStore.view c.self.inside.store) c.self.inside.tables.entries in
     let r = c.index_mut-session.result.now in
@@ -57,7 +57,7 @@ invariant_of-self-in-Ok-Made g c =
     let took = subst (IsTaken c.index_mut-session.result.now c.take_unmade.new.session) c.in-Some.is c.take_unmade.ensures in
     let actor = c.actor_of-actor.ensures in
     let h : Making st c.self.inside.last c.args.c c.index_mut-session.result.now c.in-Some.make = record { within = lt; at = at; phase = c.in-Working.is; planned = took.planned; holds = c.self.invariant.holds } in
-    rw took.after (engine_with c.self.inside.entries c.self.inside.entries c.self.inside.events c.self.inside.locks c.self.inside.sessions.items (g.S.RowStore.view c.self.inside.store) (g.S.RowStore.view c.new_heap.new.store) c.self.inside.tables.entries c.self.inside.last c.self.inside.owed c.self.inside.owed c.self.inside.owed_events c.args.c r _ c.self.invariant lt at
+    rw took.after (engine_with c.self.inside.entries c.self.inside.entries c.self.inside.events c.self.inside.locks c.self.inside.sessions.items (g.S.RowStore.view c.self.inside.store) (g.S.RowStore.view c.new_heap.new.store) c.self.inside.tables.entries c.self.inside.last c.self.inside.owed c.self.inside.owed c.self.inside.owed_events c.args.c r _ c.self.invariant lt at refl
     refl refl c.self.invariant.room.entries_fit
     (makes st c.self.inside.last c.args.c r c.in-Some.make c.new_heap.new.make (g.S.RowStore.view c.new_heap.new.store) h took.bare c.law.ensures (subst (λ t. IsContained t c.in-Some.make c.new_heap.new.make (g.S.RowStore.view c.self.inside.store) (g.S.RowStore.view c.new_heap.new.store) contained.Made) (ap (λ (s : Session). s.txn.0) took.after) (subst (IsContained c.take_unmade.new.session.txn.0 c.in-Some.make c.new_heap.new.make (g.S.RowStore.view c.self.inside.store) (g.S.RowStore.view c.new_heap.new.store)) c.in-Ok-Made.field-0-is c.in-Ok-Made.ensures.made)) (λ b ne. c.in-Ok-Made.ensures.stays.others b (λ e. ne (e ∙ actor))) c.in-Ok-Made.ensures.stays.limit_same))
 
@@ -71,7 +71,7 @@ invariant_of-self-in-Ok-Onward g c =
     let actor = c.actor_of-actor.ensures in
     let h : Making st c.self.inside.last c.args.c c.index_mut-session.result.now c.in-Some.make = record { within = lt; at = at; phase = c.in-Working.is; planned = took.planned; holds = c.self.invariant.holds } in
     let same = (subst (λ t. IsContained t c.in-Some.make c.new_heap.new.make (g.S.RowStore.view c.self.inside.store) (g.S.RowStore.view c.new_heap.new.store) contained.Onward) (ap (λ (s : Session). s.txn.0) took.after) (subst (IsContained c.take_unmade.new.session.txn.0 c.in-Some.make c.new_heap.new.make (g.S.RowStore.view c.self.inside.store) (g.S.RowStore.view c.new_heap.new.store)) c.in-Ok-Onward.field-0-is c.in-Ok-Onward.ensures.made)) in
-    rw (took.after, same.0) (engine_with c.self.inside.entries c.self.inside.entries c.self.inside.events c.self.inside.locks c.self.inside.sessions.items (g.S.RowStore.view c.self.inside.store) (g.S.RowStore.view c.new_heap.new.store) c.self.inside.tables.entries c.self.inside.last c.self.inside.owed c.self.inside.owed c.self.inside.owed_events c.args.c r _ c.self.invariant lt at
+    rw (took.after, same.0) (engine_with c.self.inside.entries c.self.inside.entries c.self.inside.events c.self.inside.locks c.self.inside.sessions.items (g.S.RowStore.view c.self.inside.store) (g.S.RowStore.view c.new_heap.new.store) c.self.inside.tables.entries c.self.inside.last c.self.inside.owed c.self.inside.owed c.self.inside.owed_events c.args.c r _ c.self.invariant lt at refl
     refl refl c.self.invariant.room.entries_fit
     (make_on st c.self.inside.last c.args.c c.in-Some.make.def.number r c.in-Some.make (g.S.RowStore.view c.new_heap.new.store) h took.bare (record { content = same.1; others = λ b ne. c.in-Ok-Onward.ensures.stays.others b (λ e. ne (e ∙ actor)); limit_same = c.in-Ok-Onward.ensures.stays.limit_same })))
 
@@ -85,7 +85,7 @@ invariant_of-self-in-Err g c =
     let actor = c.actor_of-actor.ensures in
     let h : Making st c.self.inside.last c.args.c c.index_mut-session.result.now c.in-Some.make = record { within = lt; at = at; phase = c.in-Working.is; planned = took.planned; holds = c.self.invariant.holds } in
     let left = subst (λ t. IsBare t c.in-Some.make c.new_heap.new.make (g.S.RowStore.view c.self.inside.store) (g.S.RowStore.view c.new_heap.new.store)) (ap (λ (s : Session). s.txn.0) took.after) c.in-Err.ensures.err in
-    rw took.after (engine_with c.self.inside.entries c.self.inside.entries c.self.inside.events c.self.inside.locks c.self.inside.sessions.items (g.S.RowStore.view c.self.inside.store) (g.S.RowStore.view c.new_heap.new.store) c.self.inside.tables.entries c.self.inside.last c.self.inside.owed c.self.inside.owed c.self.inside.owed_events c.args.c r _ c.self.invariant lt at
+    rw took.after (engine_with c.self.inside.entries c.self.inside.entries c.self.inside.events c.self.inside.locks c.self.inside.sessions.items (g.S.RowStore.view c.self.inside.store) (g.S.RowStore.view c.new_heap.new.store) c.self.inside.tables.entries c.self.inside.last c.self.inside.owed c.self.inside.owed c.self.inside.owed_events c.args.c r _ c.self.invariant lt at refl
     refl refl c.self.invariant.room.entries_fit
     (make_bare st c.self.inside.last c.args.c r c.in-Some.make c.new_heap.new.make (g.S.RowStore.view c.new_heap.new.store) h took.bare c.law.ensures left (λ b ne. c.in-Err.ensures.stays.others b (λ e. ne (e ∙ actor))) c.in-Err.ensures.stays.limit_same))
 
@@ -103,7 +103,7 @@ invariant_of-self-in-Ok-NoPages g c =
     let one = (working_owes c.self.inside.entries c.self.inside.events c.self.inside.locks c.self.inside.sessions.items (g.S.RowStore.view c.self.inside.store) c.self.inside.tables.entries c.self.inside.last c.self.inside.owed c.self.inside.owed_events c.args.c c.index_mut-session.result.now c.self.invariant lt c.index_mut-session.ensures.value c.in-Working.is).0 in
     let fit = c.self.invariant.room.entries_fit in
     let same = (subst (λ t. IsContained t c.in-Some.make c.new_heap.new.make (g.S.RowStore.view c.self.inside.store) (g.S.RowStore.view c.new_heap.new.store) contained.NoPages) (ap (λ (s : Session). s.txn.0) took.after) (subst (IsContained c.take_unmade.new.session.txn.0 c.in-Some.make c.new_heap.new.make (g.S.RowStore.view c.self.inside.store) (g.S.RowStore.view c.new_heap.new.store)) c.in-Ok-NoPages.field-0-is c.in-Ok-NoPages.ensures.made)) in
-    rw (c.run_out.ensures, took.after) (engine_with c.self.inside.entries c.self.inside.entries c.self.inside.events c.self.inside.locks c.self.inside.sessions.items (g.S.RowStore.view c.self.inside.store) (g.S.RowStore.view c.new_heap.new.store) c.self.inside.tables.entries c.self.inside.last c.self.inside.owed (c.self.inside.owed - 1) c.self.inside.owed_events c.args.c r _ c.self.invariant lt at
+    rw (c.run_out.ensures, took.after) (engine_with c.self.inside.entries c.self.inside.entries c.self.inside.events c.self.inside.locks c.self.inside.sessions.items (g.S.RowStore.view c.self.inside.store) (g.S.RowStore.view c.new_heap.new.store) c.self.inside.tables.entries c.self.inside.last c.self.inside.owed (c.self.inside.owed - 1) c.self.inside.owed_events c.args.c r _ c.self.invariant lt at refl
     (omega (arith, needs, one)) (omega (arith, opened)) (omega (arith, fit, one))
     (make_spent st c.self.inside.last c.args.c r c.in-Some.make state.PagesSpent (g.S.RowStore.view c.new_heap.new.store) h (record { content = same.1; others = λ b ne. c.in-Ok-NoPages.ensures.stays.others b (λ e. ne (e ∙ actor)); limit_same = c.in-Ok-NoPages.ensures.stays.limit_same }) (inl refl)))
 
@@ -121,7 +121,7 @@ invariant_of-self-in-Ok-NoLog g c =
     let one = (working_owes c.self.inside.entries c.self.inside.events c.self.inside.locks c.self.inside.sessions.items (g.S.RowStore.view c.self.inside.store) c.self.inside.tables.entries c.self.inside.last c.self.inside.owed c.self.inside.owed_events c.args.c c.index_mut-session.result.now c.self.invariant lt c.index_mut-session.ensures.value c.in-Working.is).0 in
     let fit = c.self.invariant.room.entries_fit in
     let same = (subst (λ t. IsContained t c.in-Some.make c.new_heap.new.make (g.S.RowStore.view c.self.inside.store) (g.S.RowStore.view c.new_heap.new.store) contained.NoLog) (ap (λ (s : Session). s.txn.0) took.after) (subst (IsContained c.take_unmade.new.session.txn.0 c.in-Some.make c.new_heap.new.make (g.S.RowStore.view c.self.inside.store) (g.S.RowStore.view c.new_heap.new.store)) c.in-Ok-NoLog.field-0-is c.in-Ok-NoLog.ensures.made)) in
-    rw (c.run_out-in-Ok-NoLog.ensures, took.after) (engine_with c.self.inside.entries c.self.inside.entries c.self.inside.events c.self.inside.locks c.self.inside.sessions.items (g.S.RowStore.view c.self.inside.store) (g.S.RowStore.view c.new_heap.new.store) c.self.inside.tables.entries c.self.inside.last c.self.inside.owed (c.self.inside.owed - 1) c.self.inside.owed_events c.args.c r _ c.self.invariant lt at
+    rw (c.run_out-in-Ok-NoLog.ensures, took.after) (engine_with c.self.inside.entries c.self.inside.entries c.self.inside.events c.self.inside.locks c.self.inside.sessions.items (g.S.RowStore.view c.self.inside.store) (g.S.RowStore.view c.new_heap.new.store) c.self.inside.tables.entries c.self.inside.last c.self.inside.owed (c.self.inside.owed - 1) c.self.inside.owed_events c.args.c r _ c.self.invariant lt at refl
     (omega (arith, needs, one)) (omega (arith, opened)) (omega (arith, fit, one))
     (make_spent st c.self.inside.last c.args.c r c.in-Some.make state.LogSpent (g.S.RowStore.view c.new_heap.new.store) h (record { content = same.1; others = λ b ne. c.in-Ok-NoLog.ensures.stays.others b (λ e. ne (e ∙ actor)); limit_same = c.in-Ok-NoLog.ensures.stays.limit_same }) (inr refl)))
 
@@ -139,7 +139,7 @@ invariant_of-self-in-Err-Memory g c =
     let one = (working_owes c.self.inside.entries c.self.inside.events c.self.inside.locks c.self.inside.sessions.items (g.S.RowStore.view c.self.inside.store) c.self.inside.tables.entries c.self.inside.last c.self.inside.owed c.self.inside.owed_events c.args.c c.index_mut-session.result.now c.self.invariant lt c.index_mut-session.ensures.value c.in-Working.is).0 in
     let fit = c.self.invariant.room.entries_fit in
     let left = subst (λ t. IsBare t c.in-Some.make c.new_heap.new.make (g.S.RowStore.view c.self.inside.store) (g.S.RowStore.view c.new_heap.new.store)) (ap (λ (s : Session). s.txn.0) took.after) c.in-Err-Memory.ensures.err in
-    rw (c.starve.ensures, took.after) (engine_with c.self.inside.entries c.self.inside.entries c.self.inside.events c.self.inside.locks c.self.inside.sessions.items (g.S.RowStore.view c.self.inside.store) (g.S.RowStore.view c.new_heap.new.store) c.self.inside.tables.entries c.self.inside.last c.self.inside.owed (c.self.inside.owed - 1) c.self.inside.owed_events c.args.c r _ c.self.invariant lt at
+    rw (c.starve.ensures, took.after) (engine_with c.self.inside.entries c.self.inside.entries c.self.inside.events c.self.inside.locks c.self.inside.sessions.items (g.S.RowStore.view c.self.inside.store) (g.S.RowStore.view c.new_heap.new.store) c.self.inside.tables.entries c.self.inside.last c.self.inside.owed (c.self.inside.owed - 1) c.self.inside.owed_events c.args.c r _ c.self.invariant lt at refl
     (omega (arith, needs, one)) (omega (arith, opened)) (omega (arith, fit, one))
     (bare_starves st c.self.inside.last c.args.c r c.in-Some.make c.new_heap.new.make (g.S.RowStore.view c.new_heap.new.store) h c.law.ensures left (λ b ne. c.in-Err-Memory.ensures.stays.others b (λ e. ne (e ∙ actor))) c.in-Err-Memory.ensures.stays.limit_same))
 

@@ -5,6 +5,7 @@ use Rattle.session_engine.specs.State.{ends_in, opens}
 use Rattle.session_engine.specs.Engine.{state}
 use Rattle.session_engine.proofs.BindLemmas.{binds, bound_ends}
 use Rattle.session_engine.proofs.RoomLemmas.{room_for, room_after}
+use Rattle.session_engine.proofs.SpentLemmas.{itself, spent_kept}
 use Rattle.session_engine.proofs.engine.Engine.prepare.Goals as goal
 
 pub overflow_sub-self-2 : goal.overflow_sub-self-2
@@ -16,8 +17,8 @@ overflow_sub-self-2 g c =
     let one = (room_for c.self.inside.entries c.self.inside.events c.self.inside.sessions.items (lock c.self.inside.locks) c.self.inside.owed c.self.inside.owed_events c.args.c 3 r c.self.invariant.room lt c.index_mut-session.ensures.value (omega (arith, needs))).0 in
     omega (arith, three, one)
 
-pub invariant_of-self-2 : goal.invariant_of-self-2
-invariant_of-self-2 g c =
+pub invariant_of-self : goal.invariant_of-self
+invariant_of-self g c =
     let lt : c.args.c < length c.self.inside.sessions.items = omega arith in
     let st = state c.self.inside.entries c.self.inside.events c.self.inside.locks c.self.inside.sessions.items (g.S.RowStore.view c.self.inside.store) c.self.inside.tables.entries in
     let r = c.index_mut-session.result.now in
@@ -40,4 +41,5 @@ invariant_of-self-2 g c =
           c.self.inside.owed c.self.inside.owed_events (c.self.inside.owed - (c.ends.result - c.ends-2.result)) c.self.inside.owed_events c.args.c r _ c.self.invariant.room lt at
           (omega (arith, needs, three, then, now, left.0, one)) (omega (arith, needs_event, now_event, left.1)) (omega (arith, fit)) c.self.invariant.room.events_fit;
       woken = c.self.invariant.woken;
+      spent = spent_kept c.self.inside.sessions.items c.args.c r _ lt at (itself r.closed) (itself r.spans) (itself r.begun) c.self.invariant.spent;
     }

@@ -12,6 +12,7 @@ use Rattle.session_engine.proofs.StepLemmas.{refused_content}
 use Rattle.session_engine.proofs.ContainerLemmas.{refuses_container}
 use Rattle.session_engine.proofs.EndLemmas.{undoes_statement, refuses_pages}
 use Rattle.session_engine.proofs.TellLemmas.{refusal_of, refusal_mark, refusal_open, tells_refusal, told_ends, told_opens, not_done}
+use Rattle.session_engine.proofs.SpentLemmas.{itself, spent_kept}
 use Rattle.session_engine.proofs.engine.Engine.refuse.Goals as goal
 
 pub undo_one-requires-clause-few : goal.undo_one-requires-clause-few
@@ -31,8 +32,8 @@ overflow_sub-self g c =
     let needs : ends_in c.index_mut-session.result.now.phase ≡ 2 = ap ends_in c.in-Refusing.is in
     (room_for c.self.inside.entries c.self.inside.events c.self.inside.sessions.items (lock c.self.inside.locks) c.self.inside.owed c.self.inside.owed_events c.args.c 1 c.index_mut-session.result.now c.self.invariant.room lt c.index_mut-session.ensures.value (omega (arith, needs))).0
 
-pub invariant_of-self-in-Some : goal.invariant_of-self-in-Some
-invariant_of-self-in-Some g c =
+pub invariant_of-self : goal.invariant_of-self
+invariant_of-self g c =
     let lt : c.args.c < length c.self.inside.sessions.items = omega arith in
     let r = c.index_mut-session.result.now in
     let at = c.index_mut-session.ensures.value in
@@ -59,6 +60,7 @@ invariant_of-self-in-Some g c =
           c.self.inside.owed c.self.inside.owed_events (c.self.inside.owed - 1) c.self.inside.owed_events c.args.c r _ c.self.invariant.room lt at
           (omega (arith, fewer, room.0)) (omega arith) (omega (arith, put_len, put_cap, room.0, fit)) c.self.invariant.room.events_fit;
       woken = c.self.invariant.woken;
+      spent = spent_kept c.self.inside.sessions.items c.args.c r _ lt at (itself r.closed) (itself r.spans) (itself r.begun) c.self.invariant.spent;
     }
 
 pub undo_one-requires-clause-begun : goal.undo_one-requires-clause-begun
@@ -86,6 +88,7 @@ invariant_of-self-in-Ok-Onward g c =
       room = room_after c.self.inside.entries c.self.inside.entries c.self.inside.events c.self.inside.events c.self.inside.sessions.items (lock c.self.inside.locks) (lock c.self.inside.locks)
           c.self.inside.owed c.self.inside.owed_events c.self.inside.owed c.self.inside.owed_events c.args.c c.index_mut-session.result.now c.index_mut-session.result.now c.self.invariant.room lt c.index_mut-session.ensures.value refl refl c.self.invariant.room.entries_fit c.self.invariant.room.events_fit;
       woken = c.self.invariant.woken;
+      spent = spent_kept c.self.inside.sessions.items c.args.c c.index_mut-session.result.now _ lt c.index_mut-session.ensures.value (itself c.index_mut-session.result.now.closed) (itself c.index_mut-session.result.now.spans) (itself c.index_mut-session.result.now.begun) c.self.invariant.spent;
     }
 
 pub invariant_of-self-in-Ok-UndidContainer : goal.invariant_of-self-in-Ok-UndidContainer
@@ -103,6 +106,7 @@ invariant_of-self-in-Ok-UndidContainer g c =
       room = room_after c.self.inside.entries c.self.inside.entries c.self.inside.events c.self.inside.events c.self.inside.sessions.items (lock c.self.inside.locks) (lock c.self.inside.locks)
           c.self.inside.owed c.self.inside.owed_events c.self.inside.owed c.self.inside.owed_events c.args.c c.index_mut-session.result.now c.index_mut-session.result.now c.self.invariant.room lt c.index_mut-session.ensures.value refl refl c.self.invariant.room.entries_fit c.self.invariant.room.events_fit;
       woken = c.self.invariant.woken;
+      spent = spent_kept c.self.inside.sessions.items c.args.c c.index_mut-session.result.now _ lt c.index_mut-session.ensures.value (itself c.index_mut-session.result.now.closed) (itself c.index_mut-session.result.now.spans) (itself c.index_mut-session.result.now.begun) c.self.invariant.spent;
     }
 
 pub invariant_of-self-in-Ok-Held : goal.invariant_of-self-in-Ok-Held
@@ -118,6 +122,7 @@ invariant_of-self-in-Ok-Held g c =
       room = room_after c.self.inside.entries c.self.inside.entries c.self.inside.events c.self.inside.events c.self.inside.sessions.items (lock c.self.inside.locks) (lock c.self.inside.locks)
           c.self.inside.owed c.self.inside.owed_events c.self.inside.owed c.self.inside.owed_events c.args.c c.index_mut-session.result.now c.index_mut-session.result.now c.self.invariant.room lt c.index_mut-session.ensures.value refl refl c.self.invariant.room.entries_fit c.self.invariant.room.events_fit;
       woken = c.self.invariant.woken;
+      spent = spent_kept c.self.inside.sessions.items c.args.c c.index_mut-session.result.now _ lt c.index_mut-session.ensures.value (itself c.index_mut-session.result.now.closed) (itself c.index_mut-session.result.now.spans) (itself c.index_mut-session.result.now.begun) c.self.invariant.spent;
     }
 
 pub invariant_of-self-in-Err : goal.invariant_of-self-in-Err
@@ -133,6 +138,7 @@ invariant_of-self-in-Err g c =
       room = room_after c.self.inside.entries c.self.inside.entries c.self.inside.events c.self.inside.events c.self.inside.sessions.items (lock c.self.inside.locks) (lock c.self.inside.locks)
           c.self.inside.owed c.self.inside.owed_events c.self.inside.owed c.self.inside.owed_events c.args.c c.index_mut-session.result.now c.index_mut-session.result.now c.self.invariant.room lt c.index_mut-session.ensures.value refl refl c.self.invariant.room.entries_fit c.self.invariant.room.events_fit;
       woken = c.self.invariant.woken;
+      spent = spent_kept c.self.inside.sessions.items c.args.c c.index_mut-session.result.now _ lt c.index_mut-session.ensures.value (itself c.index_mut-session.result.now.closed) (itself c.index_mut-session.result.now.spans) (itself c.index_mut-session.result.now.begun) c.self.invariant.spent;
     }
 
 pub put-requires-in-Refuse : goal.put-requires-in-Refuse
@@ -174,4 +180,5 @@ invariant_of-self-in-Refuse g c =
           c.self.inside.owed c.self.inside.owed_events (c.self.inside.owed - 1) c.self.inside.owed_events c.args.c r _ c.self.invariant.room lt at
           (omega (arith, needs, left, room.0)) (omega (arith, needs_event, left_event)) (omega (arith, put_len, put_cap, room.0, fit)) c.self.invariant.room.events_fit;
       woken = c.self.invariant.woken;
+      spent = spent_kept c.self.inside.sessions.items c.args.c r _ lt at (itself r.closed) (itself r.spans) (itself r.begun) c.self.invariant.spent;
     }

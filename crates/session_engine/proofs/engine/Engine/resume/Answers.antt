@@ -5,6 +5,8 @@ use Rattle.session_engine.specs.State.{ends_in, opens}
 use Rattle.session_engine.specs.Engine.{state}
 use Rattle.session_engine.proofs.RoomLemmas.{room_after}
 use Rattle.session_engine.proofs.StartLemmas.{next_statement, begun_opens, begun_ends}
+use Rattle.session_engine.specs.declared.session.Session.{Session}
+use Rattle.session_engine.proofs.SpentLemmas.{spent_open}
 use Rattle.session_engine.proofs.engine.Engine.resume.Goals as goal
 
 pub started-requires : goal.started-requires
@@ -38,4 +40,5 @@ invariant_of-self-2 g c =
           c.self.inside.owed c.self.inside.owed_events (c.self.inside.owed + (c.ends.result - 1)) c.self.inside.owed_events c.args.c r c.start.new.session c.self.invariant.room lt at
           (omega (arith, was, ends, made, more, two)) (omega (arith, shut, opened)) (let fit = room.entries_fit in omega (arith, fit, len, cap, few)) (let fit = room.events_fit in omega (arith, fit, waiters));
       woken = c.self.invariant.woken;
+      spent = spent_open c.self.inside.sessions.items c.args.c c.start.new.session (ap (λ (x : Session). x.closed) c.start.ensures ∙ c.in-false.is) c.self.invariant.spent;
     }

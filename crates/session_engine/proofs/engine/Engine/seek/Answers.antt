@@ -1,9 +1,17 @@
-use Rattle.std.proofs.Common.{◌<◌, length, ◌∙◌, subst, arith}
+use Rattle.std.proofs.Common.{◌≡◌, ◌<◌, length, refl, ◌∙◌, ap, subst, arith}
 use Rattle.session_engine.specs.Engine.{state}
 use Rattle.session_engine.specs.Scanning.{IsSought}
 use Rattle.session_engine.specs.declared.session.Plan.TheVariants as plan
+use Rattle.session_engine.specs.declared.session.Session.{Session}
 use Rattle.session_engine.proofs.CountLemmas.{may_hold}
 use Rattle.session_engine.proofs.ReadLemmas.{Reading, scan_described, scan_finds, scan_stays, scan_starves, scan_goes, scan_fails, working_owes}
+use Rattle.session_engine.specs.declared.next.Next.TheVariants as next
+use Rattle.session_engine.specs.declared.next.Work.TheVariants as work
+use Rattle.session_engine.specs.declared.scanning.Sought.TheVariants as sought
+use Rattle.session_engine.specs.declared.step.Event.TheVariants as event
+use Rattle.session_engine.specs.declared.step.Step.TheVariants.{Blocked}
+use Rattle.session_engine.specs.Scanning.{TurnsTo}
+use Rattle.session_engine.proofs.PaceLemmas.{acts_bare, acts_frame, came_near, paces_blocked, paces_came, paces_on, paces_refused, replanned}
 use Rattle.session_engine.proofs.engine.Engine.seek.Goals as goal
 
 pub seek_row-requires-clause-described : goal.seek_row-requires-clause-described
@@ -21,8 +29,8 @@ pub seek_row-requires-clause-few : goal.seek_row-requires-clause-few
 seek_row-requires-clause-few g c =
     may_hold (state c.self.inside.entries c.self.inside.events c.self.inside.locks c.self.inside.sessions.items (g.S.RowStore.view c.self.inside.store) c.self.inside.tables.entries) c.self.inside.last _ c.self.invariant.holds
 
-pub invariant_of-self-in-Ok-Came : goal.invariant_of-self-in-Ok-Came
-invariant_of-self-in-Ok-Came g c =
+pub invariant_of-self : goal.invariant_of-self
+invariant_of-self g c =
     let lt : c.args.c < length c.self.inside.sessions.items = omega arith in
     let st = state c.self.inside.entries c.self.inside.events c.self.inside.locks c.self.inside.sessions.items (g.S.RowStore.view c.self.inside.store) c.self.inside.tables.entries in
     let r = c.index_mut-session.result.now in

@@ -1,0 +1,3 @@
+pub mod EndsLemmas
+pub mod UndoLemmas
+pub mod CloseLemmas

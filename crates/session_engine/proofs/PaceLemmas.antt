@@ -1,0 +1,520 @@
+-- What a step owes to its pace: who does what next, whose pages moved, and that it led nearer to something that is done.
+use Rattle.std.proofs.Common.{◌≡◌, ◌≢◌, ℕ, zero, suc, ◌+◌, ◌<◌, ◌≤◌, List, [], ◌∷◌, length, map, set, get_or, Bool, true, false, refl, sym, ◌∙◌, ap, subst, arith, inl, inr, nat_le, nat_lt, Option, Some}
+use Rattle.std.specs.Prelude.{◌⊎◌, if◌then◌else◌}
+use Rattle.std.proofs.lemmas.Bool.Decides.{nat_tests}
+use Rattle.std.proofs.lemmas.List.{get_or-map, get_or_past, map-set, set-get_or, set-set}
+use Rattle.store_api.specs.Effects.{GoesOn, IsHeld}
+use Rattle.journal_model.specs.declared.journal.Entry.{Entry}
+use Rattle.session_model.specs.declared.journal.Locked.{Locked}
+use Rattle.store_api.specs.Frames.{Frame, GrowingFrame, StillFrame}
+use Rattle.store_api.specs.View.{View, Holding}
+use Rattle.dby_types.specs.declared.value.Value.{Value}
+use Rattle.lock_modes.specs.declared.mode.Mode.{Mode}
+use Rattle.lock_modes.specs.declared.name.LockName.{LockName}
+use Rattle.session_model.specs.declared.order.Order.{Order}
+use Rattle.dby_types.specs.declared.state.SqlState.{SqlState}
+use Rattle.session_engine.specs.Asking.{behind, in_want, wanted}
+use Rattle.session_engine.specs.Filling.{run_out}
+use Rattle.session_engine.specs.Scanning.{IsWithheld, TurnsTo}
+use Rattle.session_engine.specs.declared.scanning.Sought.TheVariants as sought
+use Rattle.session_engine.specs.Blocking.{HasWhy}
+use Rattle.session_engine.specs.Pacing.{gets_done, Acts, Leads, Paces, is_way, next_at, next_in, next_of, next_of_fill, next_of_make, next_of_plan, next_of_rows, next_of_scan, nexts_of, rank, waits}
+use Rattle.session_engine.specs.Stepped.{IsFinished, IsNoted, IsTold}
+use Rattle.session_engine.specs.declared.next.Build.{Build}
+use Rattle.session_engine.specs.declared.next.Build.TheVariants as build
+use Rattle.session_engine.specs.declared.next.Close.{Close}
+use Rattle.session_engine.specs.declared.next.Close.TheVariants as close
+use Rattle.session_engine.specs.declared.next.Next.{Next}
+use Rattle.session_engine.specs.declared.next.Next.TheVariants as next
+use Rattle.session_engine.specs.declared.next.Work.{Work}
+use Rattle.session_engine.specs.declared.next.Work.TheVariants as work
+use Rattle.session_engine.specs.declared.session.Phase.{Phase}
+use Rattle.session_engine.specs.declared.session.Phase.TheVariants.{Idle, Resting, Asking, Preparing, Claiming, Working, Refusing, Committing, Forcing, Acknowledging, Leaving}
+use Rattle.session_engine.specs.declared.session.Fill.{Fill}
+use Rattle.session_engine.specs.declared.session.Plan.{Plan}
+use Rattle.session_engine.specs.declared.session.Plan.TheVariants as plan
+use Rattle.session_engine.specs.declared.session.Scan.{Scan}
+use Rattle.session_engine.specs.declared.session.Where.{Where}
+use Rattle.session_engine.specs.declared.session.Where.TheVariants as place
+use Rattle.session_engine.specs.declared.session.Session.{Session}
+use Rattle.session_engine.specs.declared.step.Event.{Event}
+use Rattle.session_engine.specs.declared.step.Event.TheVariants as event
+use Rattle.session_engine.specs.declared.step.Step.{Step}
+use Rattle.session_engine.specs.declared.step.Why.TheVariants as why
+use Rattle.session_engine.specs.declared.step.Step.TheVariants.{Went, Blocked, Answered, Ended, Stopped, Memory}
+
+-- WHAT IT DOES NEXT is what its own state says
+pub next_is : (ss : List Session) (c : ℕ) (r : Session) → c < length ss → r ≡ get_or ss c r → next_at (nexts_of ss) c ≡ next_of r
+next_is ss c r lt at = get_or-map next_of ss c r next.End lt ∙ ap next_of (sym at)
+
+-- nobody is behind the last connection
+pub none_behind : (ss : List Session) (c : ℕ) → length ss ≤ c → next_at (nexts_of ss) c ≡ next.End
+none_behind [] c le = refl
+none_behind (s ∷ ss) zero le = absurd (omega arith)
+none_behind (s ∷ ss) (suc c) le = none_behind ss c (omega arith)
+
+-- WHOSE PAGES MOVED
+pub acts_none : (a : ℕ) (v : View) → Acts a v v
+acts_none a v = record { others = λ b ne. refl; one_more = omega arith; more_pages = omega arith; few_pages = omega arith }
+
+pub acts_frame : (a b : ℕ) (v v' : View) → a ≡ b → Frame a v v' → Acts b v v'
+acts_frame a b v v' same f = subst (λ x. Acts x v v') same (record { others = f.others; one_more = f.one_more; more_pages = (let e = f.pages_same in omega (arith, e)); few_pages = (let e = f.pages_same in omega (arith, e)) })
+
+pub acts_growing : (a : ℕ) (v v' : View) → GrowingFrame a v v' → Acts a v v'
+acts_growing a v v' f = record { others = f.others; one_more = f.one_more; more_pages = f.more_pages; few_pages = f.few_pages }
+
+pub acts_same : (a b : ℕ) (v v' : View) → a ≡ b → Acts a v v' → Acts b v v'
+acts_same a b v v' same h = subst (λ x. Acts x v v') same h
+
+pub acts_still : (a : ℕ) (v v' : View) → StillFrame v v' → Acts a v v'
+acts_still a v v' f = record {
+  others = λ b ne. f.everyone b;
+  one_more = (let e : (v'.actors a).pages ≡ (v.actors a).pages = ap (λ (h : Holding). h.pages) (f.everyone a) in omega (arith, e));
+  more_pages = (let e = f.pages_same in omega (arith, e));
+  few_pages = (let e = f.pages_same in omega (arith, e));
+}
+
+-- behind which all is let go of
+pub acts_bare : (a b : ℕ) (v v' v'' : View) → a ≡ b → Acts b v v' → Frame a v' v'' → (v''.actors a).pages ≡ 0 → Acts b v v''
+acts_bare a b v v' v'' actor h frame empty =
+    let f : Frame b v' v'' = subst (λ x. Frame x v' v'') actor frame in
+    let none : (v''.actors b).pages ≡ 0 = subst (λ x. (v''.actors x).pages ≡ 0) actor empty in
+    let same = f.pages_same in
+    let more = h.more_pages in
+    let few = h.few_pages in
+    record { others = λ x ne. f.others x ne ∙ h.others x ne; one_more = omega (arith, none); more_pages = omega (arith, same, more); few_pages = omega (arith, same, few) }
+
+-- behind which nobody's pages move
+pub acts_then : (a : ℕ) (v v' v'' : View) → Acts a v v' → StillFrame v' v'' → Acts a v v''
+acts_then a v v' v'' h f =
+    let same = f.pages_same in
+    let more = h.more_pages in
+    let few = h.few_pages in
+    let one = h.one_more in
+    let kept : (v''.actors a).pages ≡ (v'.actors a).pages = ap (λ (x : Holding). x.pages) (f.everyone a) in
+    record { others = λ b ne. f.everyone b ∙ h.others b ne; one_more = omega (arith, kept, one); more_pages = omega (arith, same, more); few_pages = omega (arith, same, few) }
+
+-- STEPS that get something done
+no_way : (s : Step) → gets_done s ≡ true → is_way s ≡ true → ⊥
+no_way (Went event.Fix) h e = let x : false ≡ true = h in cc
+no_way (Went event.LetGo) h e = let x : false ≡ true = h in cc
+no_way (Went event.Lock) h e = let x : false ≡ true = h in cc
+no_way (Went event.Enqueue) h e = let x : false ≡ true = h in cc
+no_way (Went event.Begin) h e = let x : false ≡ true = e in cc
+no_way (Went event.Prepare) h e = let x : false ≡ true = e in cc
+no_way (Went event.Woken) h e = let x : false ≡ true = e in cc
+no_way (Went event.Read) h e = let x : false ≡ true = e in cc
+no_way (Went event.Change) h e = let x : false ≡ true = e in cc
+no_way (Went event.Undo) h e = let x : false ≡ true = e in cc
+no_way (Went event.Rollback) h e = let x : false ≡ true = e in cc
+no_way (Went event.Finish) h e = let x : false ≡ true = e in cc
+no_way (Went event.Append) h e = let x : false ≡ true = e in cc
+no_way (Went event.Force) h e = let x : false ≡ true = e in cc
+no_way (Went event.Acknowledge) h e = let x : false ≡ true = e in cc
+no_way (Blocked w) h e = let x : false ≡ true = h in cc
+no_way Answered h e = let x : false ≡ true = e in cc
+no_way Ended h e = let x : false ≡ true = e in cc
+no_way (Stopped s) h e = let x : false ≡ true = e in cc
+no_way Memory h e = let x : false ≡ true = e in cc
+
+no_wait : (s : Step) → gets_done s ≡ true → waits s ≡ true → ⊥
+no_wait (Went event.Fix) h e = let x : false ≡ true = h in cc
+no_wait (Went event.LetGo) h e = let x : false ≡ true = h in cc
+no_wait (Went event.Lock) h e = let x : false ≡ true = h in cc
+no_wait (Went event.Enqueue) h e = let x : false ≡ true = h in cc
+no_wait (Went event.Begin) h e = let x : false ≡ true = e in cc
+no_wait (Went event.Prepare) h e = let x : false ≡ true = e in cc
+no_wait (Went event.Woken) h e = let x : false ≡ true = e in cc
+no_wait (Went event.Read) h e = let x : false ≡ true = e in cc
+no_wait (Went event.Change) h e = let x : false ≡ true = e in cc
+no_wait (Went event.Undo) h e = let x : false ≡ true = e in cc
+no_wait (Went event.Rollback) h e = let x : false ≡ true = e in cc
+no_wait (Went event.Finish) h e = let x : false ≡ true = e in cc
+no_wait (Went event.Append) h e = let x : false ≡ true = e in cc
+no_wait (Went event.Force) h e = let x : false ≡ true = e in cc
+no_wait (Went event.Acknowledge) h e = let x : false ≡ true = e in cc
+no_wait (Blocked w) h e = let x : false ≡ true = h in cc
+no_wait Answered h e = let x : false ≡ true = e in cc
+no_wait Ended h e = let x : false ≡ true = e in cc
+no_wait (Stopped s) h e = let x : false ≡ true = e in cc
+no_wait Memory h e = let x : false ≡ true = e in cc
+
+pub done_noted : (ev : Event) (result : Step) → IsNoted ev result → gets_done (Went ev) ≡ true → gets_done result ≡ true
+done_noted ev (Went x) is h = ap (λ y. gets_done (Went y)) is ∙ h
+done_noted ev (Stopped s) is h = refl
+done_noted ev (Blocked w) is h = absurd is
+done_noted ev Answered is h = refl
+done_noted ev Ended is h = refl
+done_noted ev Memory is h = refl
+
+pub done_finished : (result : Step) → IsFinished result → gets_done result ≡ true
+done_finished Answered is = refl
+done_finished (Went x) is = ap (λ y. gets_done (Went y)) is
+done_finished (Stopped s) is = refl
+done_finished (Blocked w) is = absurd is
+done_finished Ended is = refl
+done_finished Memory is = refl
+
+pub done_told : (step result : Step) → IsTold step result → gets_done result ≡ true
+done_told (Went x) (Went y) is = ap (λ z. gets_done (Went z)) is
+done_told (Blocked w) (Went y) is = absurd is
+done_told Answered (Went y) is = absurd is
+done_told Ended (Went y) is = absurd is
+done_told (Stopped s) (Went y) is = absurd is
+done_told Memory (Went y) is = absurd is
+done_told (Went x) (Blocked w) is = absurd is
+done_told (Blocked x) (Blocked w) is = absurd is
+done_told Answered (Blocked w) is = absurd is
+done_told Ended (Blocked w) is = absurd is
+done_told (Stopped s) (Blocked w) is = absurd is
+done_told Memory (Blocked w) is = absurd is
+done_told step Answered is = refl
+done_told step Ended is = refl
+done_told step (Stopped s) is = refl
+done_told step Memory is = refl
+
+-- A STEP that gets something done
+pub paces_done : (c : ℕ) (result : Step) (ss : List Session) (s' : Session) (v v' : View) → gets_done result ≡ true → Acts (c + 1) v v' → Paces c result (nexts_of ss) (nexts_of (set ss c s')) v v'
+paces_done c result ss s' v v' done acts = record {
+  to = next_of s';
+  moved = map-set next_of ss c s';
+  acts = acts;
+  leads = λ e. absurd (no_way result done e);
+  bare = λ e. absurd (no_wait result done e);
+}
+
+-- .. in which the connections stay as they are
+pub paces_kept : (c : ℕ) (result : Step) (ns : List Next) (v v' : View) → gets_done result ≡ true → Acts (c + 1) v v' → Paces c result ns ns v v'
+paces_kept c result ns v v' done acts = record {
+  to = next_at ns c;
+  moved = sym (set-get_or ns c next.End);
+  acts = acts;
+  leads = λ e. absurd (no_way result done e);
+  bare = λ e. absurd (no_wait result done e);
+}
+
+-- .. gives no reason to wait
+pub why_done : (c : ℕ) (result : Step) (es : List Entry) (ls : List Locked) (v : View) → gets_done result ≡ true → HasWhy c result es ls v
+why_done c (Went x) es ls v done = tt
+why_done c (Blocked w) es ls v done = absurd (let x : false ≡ true = done in cc)
+why_done c Answered es ls v done = tt
+why_done c Ended es ls v done = tt
+why_done c (Stopped s) es ls v done = tt
+why_done c Memory es ls v done = tt
+
+-- A STEP ON THE WAY, which leads nearer
+pub paces_nearer : (c : ℕ) (ev : Event) (ss : List Session) (s' : Session) (x : Next) (v v' : View) → next_at (nexts_of ss) c ≡ x → waits (Went ev) ≡ false → Acts (c + 1) v v' → rank (next_of s') < rank x
+    → Paces c (Went ev) (nexts_of ss) (nexts_of (set ss c s')) v v'
+paces_nearer c ev ss s' x v v' here still acts nearer = record {
+  to = next_of s';
+  moved = map-set next_of ss c s';
+  acts = acts;
+  leads = λ e. inl (subst (λ n. rank (next_of s') < rank n) (sym here) nearer);
+  bare = λ e. absurd (let y : false ≡ true = sym still ∙ e in cc);
+}
+
+-- .. or in which the same look goes on
+pub paces_on : (c a : ℕ) (ev : Event) (ss : List Session) (r s' : Session) (x : Next) (v v' : View) → c < length ss → r ≡ get_or ss c r → next_at (nexts_of ss) c ≡ x → waits (Went ev) ≡ false → Acts (c + 1) v v' → 1 ≤ rank x
+    → next_of s' ≡ next_of r → a ≡ c + 1 → GoesOn a v v' → Paces c (Went ev) (nexts_of ss) (nexts_of (set ss c s')) v v'
+paces_on c a ev ss r s' x v v' lt at here still acts some same actor on = record {
+  to = next_of s';
+  moved = map-set next_of ss c s';
+  acts = acts;
+  leads = λ e. inr (
+    subst (λ n. 1 ≤ rank n) (sym here) some,
+    ap rank (same ∙ sym (next_is ss c r lt at)),
+    subst (λ b. (v'.actors b).turns ≡ (v.actors b).turns + 1) actor on,
+  );
+  bare = λ e. absurd (let y : false ≡ true = sym still ∙ e in cc);
+}
+
+-- how near what is done next is
+pub at_refusing : (s : Session) → s.phase ≡ Refusing → next_of s ≡ next.Refuse
+at_refusing s is = ap (λ p. next_in p s.plan s.opened (nat_le (length s.spans) s.begun)) is
+
+pub at_working : (s : Session) → s.phase ≡ Working → next_of s ≡ next.Work (next_of_plan s.plan)
+at_working s is = ap (λ p. next_in p s.plan s.opened (nat_le (length s.spans) s.begun)) is
+
+-- .. in which memory, pages or log room were wanting: it is to be refused
+pub paces_refused : (c : ℕ) (ev : Event) (ss : List Session) (s' : Session) (x : Next) (v v' : View) → next_at (nexts_of ss) c ≡ x → waits (Went ev) ≡ false → 1 < rank x → s'.phase ≡ Refusing → Acts (c + 1) v v'
+    → Paces c (Went ev) (nexts_of ss) (nexts_of (set ss c s')) v v'
+paces_refused c ev ss s' x v v' here still far is acts = paces_nearer c ev ss s' x v v' here still acts (let e : rank (next_of s') ≡ 1 = ap rank (at_refusing s' is) in omega (arith, e, far))
+
+pub paces_starved : (c : ℕ) (ev : Event) (ss : List Session) (r s' : Session) (x : Next) (v v' : View) → next_at (nexts_of ss) c ≡ x → waits (Went ev) ≡ false → 1 < rank x → s' ≡ in_want r → Acts (c + 1) v v'
+    → Paces c (Went ev) (nexts_of ss) (nexts_of (set ss c s')) v v'
+paces_starved c ev ss r s' x v v' here still far is acts = paces_refused c ev ss s' x v v' here still far (ap (λ (y : Session). y.phase) is) acts
+
+pub paces_ran_out : (c : ℕ) (ev : Event) (ss : List Session) (r s' : Session) (why : SqlState) (x : Next) (v v' : View) → next_at (nexts_of ss) c ≡ x → waits (Went ev) ≡ false → 1 < rank x → s' ≡ run_out r why → Acts (c + 1) v v'
+    → Paces c (Went ev) (nexts_of ss) (nexts_of (set ss c s')) v v'
+paces_ran_out c ev ss r s' why x v v' here still far is acts = paces_refused c ev ss s' x v v' here still far (ap (λ (y : Session). y.phase) is) acts
+
+-- .. in which what it looked for is there
+pub paces_came : (c : ℕ) (ev : Event) (ss : List Session) (s' : Session) (x : Next) (v v' : View) → next_at (nexts_of ss) c ≡ x → waits (Went ev) ≡ false → 0 < rank x → s'.phase ≡ Working
+    → rank (next.Work (next_of_plan s'.plan)) ≡ 0 → Acts (c + 1) v v' → Paces c (Went ev) (nexts_of ss) (nexts_of (set ss c s')) v v'
+paces_came c ev ss s' x v v' here still far is near acts = paces_nearer c ev ss s' x v v' here still acts (let e : rank (next_of s') ≡ rank (next.Work (next_of_plan s'.plan)) = ap rank (at_working s' is) in omega (arith, e, near, far))
+
+-- WHO WAITS holds no page
+pub paces_blocked : (c a : ℕ) (result : Step) (ss : List Session) (s' : Session) (v v' : View) → is_way result ≡ false → Acts (c + 1) v v' → a ≡ c + 1 → (v'.actors a).pages ≡ 0 → Paces c result (nexts_of ss) (nexts_of (set ss c s')) v v'
+paces_blocked c a result ss s' v v' still acts actor none = record {
+  to = next_of s';
+  moved = map-set next_of ss c s';
+  acts = acts;
+  leads = λ e. absurd (let x : false ≡ true = sym still ∙ e in cc);
+  bare = λ e. subst (λ b. (v'.actors b).pages ≡ 0) actor none;
+}
+
+-- .. who waits in a queue, as it was found
+pub paces_waits : (c : ℕ) (result : Step) (ss : List Session) (s' : Session) (v v' : View) → is_way result ≡ false → waits result ≡ false → Acts (c + 1) v v' → Paces c result (nexts_of ss) (nexts_of (set ss c s')) v v'
+paces_waits c result ss s' v v' still apart acts = record {
+  to = next_of s';
+  moved = map-set next_of ss c s';
+  acts = acts;
+  leads = λ e. absurd (let x : false ≡ true = sym still ∙ e in cc);
+  bare = λ e. absurd (let x : false ≡ true = sym apart ∙ e in cc);
+}
+
+-- somebody holds the page
+pub why_withheld : (a b c : ℕ) (es : List Entry) (ls : List Locked) (v : View) → a ≡ c → IsWithheld a b v → HasWhy c (Blocked (why.Latch b)) es ls v
+why_withheld a b c es ls v same h = subst (λ x. IsWithheld x b v) same h
+
+pub why_held : (a b c table : ℕ) (es : List Entry) (ls : List Locked) (v v' : View) → a ≡ c → IsHeld a b table v v' → HasWhy c (Blocked (why.Latch b)) es ls v
+why_held a b c table es ls v v' same h = why_withheld a b c es ls v same (h.other, (table, h.holds.0, h.holds.1))
+
+-- WHERE A CONNECTION IS by what it does next
+abbrev pub fits : Next → Phase → Bool
+fits next.End Idle = true
+fits next.Begin Idle = true
+fits next.Resume Resting = true
+fits (next.Close close.GiveUp) Resting = true
+fits next.Ask Asking = true
+fits next.Ask Claiming = true
+fits next.Prepare Preparing = true
+fits (next.Work w) Working = true
+fits next.Refuse Refusing = true
+fits (next.Close close.Append) Committing = true
+fits (next.Close close.Force) Forcing = true
+fits (next.Close close.Acknowledge) Acknowledging = true
+fits (next.Close close.Leave) Leaving = true
+fits (next.Close close.Vanish) Leaving = true
+fits _ _ = false
+
+fits_own : (p : Phase) (pl : Plan) (opened through : Bool) → fits (next_in p pl opened through) p ≡ true
+fits_own Idle pl opened true = refl
+fits_own Idle pl opened false = refl
+fits_own Resting pl opened true = refl
+fits_own Resting pl opened false = refl
+fits_own Asking pl opened through = refl
+fits_own Preparing pl opened through = refl
+fits_own Claiming pl opened through = refl
+fits_own Working pl opened through = refl
+fits_own Refusing pl opened through = refl
+fits_own Committing pl opened through = refl
+fits_own Forcing pl opened through = refl
+fits_own Acknowledging pl opened through = refl
+fits_own Leaving pl true through = refl
+fits_own Leaving pl false through = refl
+
+-- it is nowhere else
+pub elsewhere : (ss : List Session) (c : ℕ) (r : Session) (x : Next) (p : Phase) → c < length ss → r ≡ get_or ss c r → next_at (nexts_of ss) c ≡ x → r.phase ≡ p → fits x p ≡ false → ⊥
+elsewhere ss c r x p lt at here is apart =
+    let own : fits (next_of r) r.phase ≡ true = fits_own r.phase r.plan r.opened (nat_le (length r.spans) r.begun) in
+    let next : next_of r ≡ x = sym (next_is ss c r lt at) ∙ here in
+    let there : fits x p ≡ true = sym (ap (λ n. fits n r.phase) next ∙ ap (fits x) is) ∙ own in
+    (let z : false ≡ true = sym apart ∙ there in cc)
+
+-- nobody does anything behind the last connection
+pub beyond : (ss : List Session) (c : ℕ) (x : Next) → length ss ≤ c → next_at (nexts_of ss) c ≡ x → fits x Idle ≡ false → ⊥
+beyond ss c x le here apart =
+    let z : fits x Idle ≡ true = ap (λ n. fits n Idle) (sym here ∙ none_behind ss c le) in
+    (let y : false ≡ true = sym apart ∙ z in cc)
+
+-- what was bound, by what is done next
+pub work_is : (ss : List Session) (c : ℕ) (r : Session) (w : Work) → c < length ss → r ≡ get_or ss c r → next_at (nexts_of ss) c ≡ next.Work w → r.phase ≡ Working → next_of_plan r.plan ≡ w
+work_is ss c r w lt at here is =
+    let own : next_of r ≡ next.Work (next_of_plan r.plan) = ap (λ p. next_in p r.plan r.opened (nat_le (length r.spans) r.begun)) is in
+    ap (work_of (next_of_plan r.plan)) (sym own ∙ sym (next_is ss c r lt at) ∙ here)
+  where
+    work_of : Work → Next → Work
+    work_of d (next.Work w) = w
+    work_of d _ = d
+
+abbrev pub suits : Work → Plan → Bool
+suits work.Seek (plan.Select scan) = true
+suits work.Read (plan.Select scan) = true
+suits work.Answer (plan.Select scan) = true
+suits work.Widen (plan.Insert fill) = true
+suits work.Fill (plan.Insert fill) = true
+suits work.Count (plan.Insert fill) = true
+suits (work.Build b) (plan.Create make) = true
+suits work.Command plan.Nothing = true
+suits work.Command (plan.Command c) = true
+suits work.Command (plan.Refuse why) = true
+suits _ _ = false
+
+suits_scan : (scan : Scan) (at : Where) → suits (next_of_scan at) (plan.Select scan) ≡ true
+suits_scan scan place.Lost = refl
+suits_scan scan (place.At rid) = refl
+suits_scan scan place.Ended = refl
+
+suits_fill : (fill : Fill) (rows : List (List Value)) (room : Bool) → suits (next_of_fill rows room) (plan.Insert fill) ≡ true
+suits_fill fill [] room = refl
+suits_fill fill (row ∷ rows) true = refl
+suits_fill fill (row ∷ rows) false = refl
+
+suits_own : (p : Plan) → suits (next_of_plan p) p ≡ true
+suits_own plan.Nothing = refl
+suits_own (plan.Command c) = refl
+suits_own (plan.Select scan) = suits_scan scan scan.at
+suits_own (plan.Insert fill) = suits_fill fill fill.rows.items fill.has_room
+suits_own (plan.Create make) = refl
+suits_own (plan.Refuse why) = refl
+
+-- it was bound to nothing else
+pub otherwise : (ss : List Session) (c : ℕ) (r : Session) (w : Work) (p : Plan) → c < length ss → r ≡ get_or ss c r → next_at (nexts_of ss) c ≡ next.Work w → r.phase ≡ Working → r.plan ≡ p → suits w p ≡ false → ⊥
+otherwise ss c r w p lt at here is planned apart =
+    let same : next_of_plan p ≡ w = ap next_of_plan (sym planned) ∙ work_is ss c r w lt at here is in
+    let there : suits w p ≡ true = ap (λ y. suits y p) (sym same) ∙ suits_own p in
+    (let z : false ≡ true = sym apart ∙ there in cc)
+
+-- THE SCRIPT, by what is done next
+abbrev pub is_more : Next → Bool
+is_more next.Begin = true
+is_more next.Resume = true
+is_more _ = false
+
+gives_up_through : (p : Phase) (pl : Plan) (opened through : Bool) → next_in p pl opened through ≡ next.Close close.GiveUp → through ≡ true
+gives_up_through Idle pl opened true e = refl
+gives_up_through Idle pl opened false e = cc
+gives_up_through Resting pl opened true e = refl
+gives_up_through Resting pl opened false e = cc
+gives_up_through Asking pl opened through e = cc
+gives_up_through Preparing pl opened through e = cc
+gives_up_through Claiming pl opened through e = cc
+gives_up_through Working pl opened through e = cc
+gives_up_through Refusing pl opened through e = cc
+gives_up_through Committing pl opened through e = cc
+gives_up_through Forcing pl opened through e = cc
+gives_up_through Acknowledging pl opened through e = cc
+gives_up_through Leaving pl true through e = cc
+gives_up_through Leaving pl false through e = cc
+
+pub through_at : (ss : List Session) (c : ℕ) (r : Session) → c < length ss → r ≡ get_or ss c r → next_at (nexts_of ss) c ≡ next.Close close.GiveUp → length r.spans ≤ r.begun
+through_at ss c r lt at here =
+    let is = gives_up_through r.phase r.plan r.opened (nat_le (length r.spans) r.begun) (sym (next_is ss c r lt at) ∙ here) in
+    grind (arith, nat_tests, is)
+
+more_yet : (p : Phase) (pl : Plan) (opened through : Bool) → is_more (next_in p pl opened through) ≡ true → through ≡ false
+more_yet Idle pl opened true e = let x : false ≡ true = e in cc
+more_yet Idle pl opened false e = refl
+more_yet Resting pl opened true e = let x : false ≡ true = e in cc
+more_yet Resting pl opened false e = refl
+more_yet Asking pl opened through e = let x : false ≡ true = e in cc
+more_yet Preparing pl opened through e = let x : false ≡ true = e in cc
+more_yet Claiming pl opened through e = let x : false ≡ true = e in cc
+more_yet Working pl opened through e = let x : false ≡ true = e in cc
+more_yet Refusing pl opened through e = let x : false ≡ true = e in cc
+more_yet Committing pl opened through e = let x : false ≡ true = e in cc
+more_yet Forcing pl opened through e = let x : false ≡ true = e in cc
+more_yet Acknowledging pl opened through e = let x : false ≡ true = e in cc
+more_yet Leaving pl true through e = let x : false ≡ true = e in cc
+more_yet Leaving pl false through e = let x : false ≡ true = e in cc
+
+-- who begins a statement has one yet
+pub begins_at : (ss : List Session) (c : ℕ) (r : Session) (x : Next) → c < length ss → r ≡ get_or ss c r → next_at (nexts_of ss) c ≡ x → is_more x ≡ true → r.begun < length r.spans
+begins_at ss c r x lt at here more =
+    let is = more_yet r.phase r.plan r.opened (nat_le (length r.spans) r.begun) (ap is_more (sym (next_is ss c r lt at) ∙ here) ∙ more) in
+    grind (arith, nat_tests, is)
+
+-- .. as it was found
+pub next_here : (ss : List Session) (c : ℕ) (r : Session) (n x : Next) → c < length ss → r ≡ get_or ss c r → n ≡ next_of r → n ≡ x → next_at (nexts_of ss) c ≡ x
+next_here ss c r n x lt at is same = next_is ss c r lt at ∙ sym is ∙ same
+
+-- the same plan is taken up again
+pub replanned : (r : Session) (p : Plan) → r.plan ≡ p → next_of (record r { plan = p }) ≡ next_of r
+replanned r p is = ap (λ y. next_in r.phase y r.opened (nat_le (length r.spans) r.begun)) (sym is)
+
+-- what a look found
+pub came_near : (a : ℕ) (v v' : View) (at : Where) → TurnsTo a v v' (sought.Came at) → rank (next.Work (next_of_scan at)) ≡ 0
+came_near a v v' place.Lost h = absurd h
+came_near a v v' (place.At rid) h = refl
+came_near a v v' place.Ended h = refl
+
+pub roomy_near : (rows : List (List Value)) → rank (next.Work (next_of_fill rows true)) ≡ 0
+roomy_near [] = refl
+roomy_near (row ∷ rows) = refl
+
+pub spread_near : (behind within : Bool) → rank (next.Work (work.Build (next_of_rows behind true within))) ≡ 0
+spread_near true within = refl
+spread_near false true = refl
+spread_near false false = refl
+
+-- what a lock is asked for is nearer than the lock
+rank_of_work : (w : Work) → rank (next.Work w) ≤ 2
+rank_of_work work.Seek = omega arith
+rank_of_work work.Read = omega arith
+rank_of_work work.Answer = omega arith
+rank_of_work work.Widen = omega arith
+rank_of_work work.Fill = omega arith
+rank_of_work work.Count = omega arith
+rank_of_work (work.Build build.Make) = omega arith
+rank_of_work (work.Build build.Spread) = omega arith
+rank_of_work (work.Build build.Lay) = omega arith
+rank_of_work (work.Build build.List) = omega arith
+rank_of_work (work.Build build.Done) = omega arith
+rank_of_work work.Command = omega arith
+
+granted_near : (p : Phase) (pl : Plan) (opened through : Bool) (order : Option Order) (x : LockName × Mode) → wanted p order pl ≡ Some x → rank (next_in (behind p) pl opened through) < 3
+granted_near Asking pl opened through order x e = omega arith
+granted_near Claiming pl opened through order x e = let few = rank_of_work (next_of_plan pl) in omega (arith, few)
+granted_near Idle pl opened through order x e = cc
+granted_near Resting pl opened through order x e = cc
+granted_near Preparing pl opened through order x e = cc
+granted_near Working pl opened through order x e = cc
+granted_near Refusing pl opened through order x e = cc
+granted_near Committing pl opened through order x e = cc
+granted_near Forcing pl opened through order x e = cc
+granted_near Acknowledging pl opened through order x e = cc
+granted_near Leaving pl opened through order x e = cc
+
+-- A LOCK is granted at once
+pub paces_granted : (c : ℕ) (ss : List Session) (r s' : Session) (x : LockName × Mode) (v v' : View) → next_at (nexts_of ss) c ≡ next.Ask → wanted r.phase r.order r.plan ≡ Some x → s' ≡ record r { phase = behind r.phase } → Acts (c + 1) v v'
+    → Paces c (Went event.Lock) (nexts_of ss) (nexts_of (set ss c s')) v v'
+paces_granted c ss r s' x v v' here asks is acts = paces_nearer c event.Lock ss s' next.Ask v v' here refl acts
+    (let e : next_of s' ≡ next_in (behind r.phase) r.plan r.opened (nat_le (length r.spans) r.begun) = ap next_of is in
+    let near = granted_near r.phase r.plan r.opened (nat_le (length r.spans) r.begun) r.order x asks in
+    let same : rank (next_of s') ≡ rank (next_in (behind r.phase) r.plan r.opened (nat_le (length r.spans) r.begun)) = ap rank e in
+    omega (arith, near, same))
+
+-- what a method's own condition says of the connections that it has
+pub here_inside : {A B C D E : Type 0} (ns : List Next) (k : ℕ) (x : Next) (v : A × B × C × D × E × List Next) (a : A) (b : B) (c : C) (d : D) (e : E) → (a, b, c, d, e, ns) ≡ v → next_at v.5 k ≡ x → next_at ns k ≡ x
+here_inside {A = A} {B = B} {C = C} {D = D} {E = E} ns k x v a b c d e same h = ap (λ (w : A × B × C × D × E × List Next). next_at w.5 k) same ∙ h
+
+-- whose script has ended in an open transaction leaves it next
+pub gave_up : {A B C D E : Type 0} (ss : List Session) (k : ℕ) (s' : Session) (v : A × B × C × D × E × List Next) (a : A) (b : B) (c : C) (d : D) (e : E) → (a, b, c, d, e, nexts_of ss) ≡ v → s'.phase ≡ Leaving → s'.opened ≡ true
+    → nexts_of (set ss k s') ≡ set v.5 k (next.Close close.Leave)
+gave_up {A = A} {B = B} {C = C} {D = D} {E = E} ss k s' v a b c d e same is opened =
+    map-set next_of ss k s'
+    ∙ ap (set (nexts_of ss) k) (ap (λ p. next_in p s'.plan s'.opened (nat_le (length s'.spans) s'.begun)) is ∙ ap (λ o. next_in Leaving s'.plan o (nat_le (length s'.spans) s'.begun)) opened)
+    ∙ ap (λ (w : A × B × C × D × E × List Next). set w.5 k (next.Close close.Leave)) same
+
+-- what holds of the store and the connections inside holds of an engine as it is seen
+pub inside : {A B C D E : Type 0} (P : D → List Next → Type 0) (v : A × B × C × D × E × List Next) (a : A) (b : B) (c : C) (d : D) (e : E) (ns : List Next) → (a, b, c, d, e, ns) ≡ v → P d ns → P v.3 v.5
+inside {A = A} {B = B} {C = C} {D = D} {E = E} P v a b c d e ns same h = subst (λ (w : A × B × C × D × E × List Next). P w.3 w.5) same h
+
+-- one that gives up, and then leaves
+next_left : (ns : List Next) (c : ℕ) (to : Next) → next_at ns c ≡ next.Close close.GiveUp → next_at (set ns c to) c ≡ to
+next_left [] c to e = cc
+next_left (n ∷ ns) zero to e = refl
+next_left (n ∷ ns) (suc c) to e = next_left ns c to e
+
+pub paces_gave_up : (c : ℕ) (result : Step) (ns ms ns' : List Next) (v u v' : View) → next_at ns c ≡ next.Close close.GiveUp → ms ≡ set ns c (next.Close close.Leave) → Paces c result ms ns' u v' → u ≡ v → Paces c result ns ns' v v'
+paces_gave_up c result ns ms ns' v u v' here leaves h same =
+    let left : next_at ms c ≡ next.Close close.Leave = ap (λ xs. next_at xs c) leaves ∙ next_left ns c (next.Close close.Leave) here in
+    let near : rank (next_at ms c) ≡ rank (next_at ns c) = ap rank left ∙ sym (ap rank here) in
+    subst (λ (x : View). Paces c result ns ns' x v') same (record {
+      to = h.to;
+      moved = h.moved ∙ ap (λ xs. set xs c h.to) leaves ∙ set-set ns c (next.Close close.Leave) h.to;
+      acts = h.acts;
+      leads = λ e. subst (λ n. Leads n (rank h.to) (u.actors (c + 1)).turns (v'.actors (c + 1)).turns) near (h.leads e);
+      bare = h.bare;
+    })
