@@ -29,9 +29,11 @@ fn answer(alloc: Global, line: &str) -> Result<u64, AllocError> {
     let Some((held, asked)) = meanwhile.split_once(' ') else {
         return Ok(0);
     };
-    let (Ok(times), Ok(others), Ok(waiters)) =
-        (often.parse::<u32>(), held.parse::<u32>(), asked.trim().parse::<u32>())
-    else {
+    let (Ok(times), Ok(others), Ok(waiters)) = (
+        often.parse::<u32>(),
+        held.parse::<u32>(),
+        asked.trim().parse::<u32>(),
+    ) else {
         return Ok(0);
     };
     let mut l = work::beside(alloc, others, waiters)?;
