@@ -1,4 +1,4 @@
-//! One transaction with many names, 64 with one, and 64 in a row.
+//! One transaction with many names, 64 with one, two that hand one to each other, and 64 in a row.
 
 ghost use Rattle.std.specs.Prelude.{◌≡◌, ◌≤◌, length};
 ghost use Rattle.lock_modes.specs.Lock.{queue};
@@ -17,6 +17,12 @@ const MANY: u64 = 64;
 
 /// The first of 64 transactions that hold names beside the others.
 const OTHER: u64 = 1000;
+
+/// Who holds the names for which others wait.
+const KEEPER: u64 = 2000;
+
+/// The first of those who wait.
+const WAITER: u64 = 3000;
 
 /// A row's name.
 fn row(table: u32, number: u32) -> LockName {
@@ -80,8 +86,9 @@ fn take_each(l: &mut LockTable, t: TxnNo, table: u32, times: u32) -> u64 {
     found
 }
 
-/// A table of locks in which 64 transactions hold so many rows, each of them as many as the others.
-pub fn beside(alloc: Global, others: u32) -> Result<LockTable, AllocError> {
+/// A table of locks in which 64 transactions hold so many rows, each of them as many as the others, and so many others wait, each
+/// for a row of its own.
+pub fn beside(alloc: Global, others: u32, waiters: u32) -> Result<LockTable, AllocError> {
     let mut l = LockTable::new(alloc);
     if others > 0 {
         for t in 0..MANY {
@@ -90,7 +97,20 @@ pub fn beside(alloc: Global, others: u32) -> Result<LockTable, AllocError> {
             let _ = take_each(&mut l, TxnNo(OTHER + t), 17 + t as u32, each);
         }
     }
+    line_up(&mut l, waiters)?;
     Ok(l)
+}
+
+/// Has so many transactions wait, each for a row of its own, which one transaction holds.
+fn line_up(l: &mut LockTable, waiters: u32) -> Result<(), AllocError> {
+    l.reserve(TxnNo(KEEPER), waiters)?;
+    let _ = take_each(l, TxnNo(KEEPER), 15, waiters);
+    for number in 0..waiters {
+        let t = TxnNo(WAITER + number as u64);
+        l.reserve(t, 1)?;
+        let _ = waits(l, t, row(15, number), Mode::X2);
+    }
+    Ok(())
 }
 
 /// Takes so many rows and gives each back. The answer is how often both were done.
@@ -112,6 +132,38 @@ pub fn rows_all(l: &mut LockTable, times: u32) -> Result<u64, AllocError> {
     let had = l.row_count(TxnNo(1), 16);
     l.release_all(TxnNo(1));
     Ok(found.wrapping_add(had))
+}
+
+/// Asks so often whether a mode would be granted, of 64 rows that are held and 64 that aren't. The answer is how often it would.
+pub fn asks(l: &mut LockTable, times: u32) -> Result<u64, AllocError> {
+    l.reserve(TxnNo(1), 64)?;
+    let _ = take_each(l, TxnNo(1), 16, 64);
+    let mut found = 0_u64;
+    for number in 0..times {
+        if l.would_grant(row(16, number % 128), Mode::S2) {
+            found = found.wrapping_add(1);
+        }
+    }
+    Ok(found)
+}
+
+/// Has two transactions hand a name to each other so often: each waits for it while the other has it. The answer is how often
+/// one was woken.
+pub fn hands(l: &mut LockTable, times: u32) -> Result<u64, AllocError> {
+    l.reserve(TxnNo(0), 1)?;
+    let _ = takes(l, TxnNo(0), row(16, 1), Mode::X2);
+    let mut found = 0_u64;
+    for turn in 0..times {
+        let has = turn % 2;
+        let other = TxnNo((1 - has) as u64);
+        l.reserve(other, 1)?;
+        let _ = waits(l, other, row(16, 1), Mode::X2);
+        let _ = gives(l, TxnNo(has as u64), row(16, 1));
+        if l.woken().is_some() {
+            found = found.wrapping_add(1);
+        }
+    }
+    Ok(found)
 }
 
 /// Has 64 transactions take one name, and give all back, so often.
