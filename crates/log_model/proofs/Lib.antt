@@ -1,0 +1,6 @@
+pub mod Puts
+pub mod Lists
+pub mod Undoing
+pub mod States
+pub mod Crashing
+pub mod Restarting

@@ -1,0 +1,6 @@
+pub mod Places
+pub mod Steps
+pub mod States
+pub mod Crash
+pub mod Restart
+pub mod Forget

@@ -1,0 +1,42 @@
+-- What an undo takes back, and what restart appends.
+use Rattle.std.specs.Prelude.{◌≡◌, ◌≢◌, ℕ, List, [], ◌∷◌, ◌++◌}
+use Rattle.table_model.specs.Tables.{Each}
+use Rattle.log_model.specs.Places.{Database, Same, Change, put, reversed}
+use Rattle.log_model.specs.Steps.{Step, changes_of}
+use Rattle.log_model.specs.Steps.Step.{compensation, rolled_back}
+use Rattle.log_model.specs.States.{State, IsOpen, MayFollow, IsLegal, stepped, after, recovered}
+
+-- AN UNDO of a transaction's newest change may follow, and takes back that change alone: what stood before it stands again
+pub record TakesBack (s : State) (t : ℕ) (c : Change) (now : State) : Type 0 where
+  pub follows : MayFollow s (compensation (reversed c))
+  pub stood : s.shown c.place ≡ c.after
+  pub shown : Same now.shown (put s.shown c.place c.before)
+  pub rest : changes_of t s.standing ≡ c ∷ changes_of t now.standing
+  pub others : (u : ℕ) → u ≢ t → changes_of u now.standing ≡ changes_of u s.standing
+  pub same : Same (recovered now) (recovered s)
+
+-- changes taken back, the newest, which is first, first
+abbrev pub undo_of : List Change → List Step
+undo_of [] = []
+undo_of (c ∷ cs) = compensation (reversed c) ∷ undo_of cs
+
+-- transactions ended
+abbrev pub ends_of : List ℕ → List Step
+ends_of [] = []
+ends_of (t ∷ ts) = rolled_back t ∷ ends_of ts
+
+-- RESTART behind a state: a compensation for each change that stands, and then an end for each of these transactions
+abbrev pub restart_of : State → List ℕ → List Step
+restart_of s ts = undo_of s.standing ++ ends_of ts
+
+-- these transactions are open, and none is named twice
+abbrev pub AreOpen : List ℕ → State → Type 0
+AreOpen [] s = Unit {0}
+AreOpen (t ∷ ts) s = IsOpen t s × Each (λ u. t ≢ u) ts × AreOpen ts s
+
+-- a log that a state is restarted by: nothing stands, and what is shown is what the state stood for, with the same commits
+pub record Restarts (s : State) (log : List Step) : Type 0 where
+  pub legal : IsLegal s log
+  pub none : (after s log).standing ≡ []
+  pub shown : Same (after s log).shown (recovered s)
+  pub commits : (after s log).commits ≡ s.commits

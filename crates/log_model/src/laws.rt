@@ -1,0 +1,47 @@
+//! Laws of logs: what holds of every state, step and log. Each call is a proof and does nothing.
+
+ghost use Rattle.log_model.specs.Crash.{HasSomeCommits, IsLeft};
+ghost use Rattle.log_model.specs.Places.{Change, Database, reversed};
+ghost use Rattle.log_model.specs.Restart.{TakesBack};
+ghost use Rattle.log_model.specs.States.{IsLegal, IsOpen, IsSound, MayFollow, State, after, recovered, start, stepped};
+ghost use Rattle.log_model.specs.Steps.{Step, newest_of};
+ghost use Rattle.log_model.specs.Steps.Step.{change, compensation};
+ghost use Rattle.std.specs.Prelude.{◌≡◌, ◌≤◌, ◌∷◌, ◌++◌, ℕ, List, Some, length, take};
+
+/// A log begins with a sound state.
+pub fn begins_sound()
+    ensures { (base : Database) → IsSound base (start base) }
+{}
+
+/// Each step that may follow leaves a sound state.
+pub fn stays_sound()
+    ensures { (base : Database) (s : State) (r : Step) → IsSound base s → MayFollow s r → IsSound base (stepped s r) }
+{}
+
+/// What a legal log shows, with what stands taken back, is the base after its commits.
+pub fn legal_is_sound()
+    ensures { (base : Database) (log : List Step) → IsLegal (start base) log → IsSound base (after (start base) log) }
+{}
+
+/// A front of a legal log is legal, and its commits are the first ones.
+pub fn fronts_are_legal()
+    ensures legal { (s : State) (log : List Step) (n : ℕ) → IsLegal s log → IsLegal s (take n log) }
+    ensures commits { (s : State) (log : List Step) (n : ℕ) → (after s (take n log)).commits ≡ take (length (after s (take n log)).commits) (after s log).commits }
+{}
+
+/// What a crash leaves of a legal log stands for the base after the first of its commits, every durable one among them.
+pub fn crash_keeps_commits()
+    ensures { (base : Database) (s : State) (log left : List Step) (forced durable : ℕ) → IsSound base s → IsLegal s log → durable ≤ length (after s (take forced log)).commits
+        → IsLeft log forced left → HasSomeCommits base (after s log).commits durable (recovered (after s left)) }
+{}
+
+/// The undo of a transaction's newest change may follow, and takes back that change alone.
+pub fn undo_takes_one_back()
+    ensures { (base : Database) (s : State) (t : ℕ) (c : Change) → IsSound base s → IsOpen t s → newest_of t s.standing ≡ Some c
+        → TakesBack s t c (stepped s (compensation (reversed c))) }
+{}
+
+/// What an undo puts back is what stood there when the change was made.
+pub fn undo_restores()
+    ensures { (s : State) (log more : List Step) (c : Change) → IsLegal s (log ++ change c ∷ more) → c.before ≡ (after s log).shown c.place }
+{}
