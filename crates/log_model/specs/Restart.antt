@@ -1,5 +1,5 @@
 -- What an undo takes back, and what restart appends.
-use Rattle.std.specs.Prelude.{◌≡◌, ◌≢◌, ℕ, List, [], ◌∷◌, ◌++◌}
+use Rattle.std.specs.Prelude.{◌≡◌, ◌≢◌, ℕ, ◌-◌, List, [], ◌∷◌, ◌++◌, length, drop}
 use Rattle.table_model.specs.Tables.{Each}
 use Rattle.log_model.specs.Places.{Database, Same, Change, put, reversed}
 use Rattle.log_model.specs.Steps.{Step, changes_of}
@@ -40,3 +40,10 @@ pub record Restarts (s : State) (log : List Step) : Type 0 where
   pub none : (after s log).standing ≡ []
   pub shown : Same (after s log).shown (recovered s)
   pub commits : (after s log).commits ≡ s.commits
+
+-- A RESTART THAT WAS STOPPED behind its first n steps stands for the same. What is left of it is a restart, so no step is made twice
+pub record GoesOn (s : State) (ts : List ℕ) (n : ℕ) (now : State) : Type 0 where
+  pub same : Same (recovered now) (recovered s)
+  pub commits : now.commits ≡ s.commits
+  pub left : restart_of now (drop (n - length s.standing) ts) ≡ drop n (restart_of s ts)
+  pub again : Restarts now (drop n (restart_of s ts))

@@ -2,7 +2,7 @@
 
 ghost use Rattle.log_model.specs.Crash.{HasSomeCommits, IsLeft};
 ghost use Rattle.log_model.specs.Places.{Change, Database, reversed};
-ghost use Rattle.log_model.specs.Restart.{TakesBack};
+ghost use Rattle.log_model.specs.Restart.{AreOpen, GoesOn, Restarts, TakesBack, restart_of};
 ghost use Rattle.log_model.specs.States.{IsLegal, IsOpen, IsSound, MayFollow, State, after, recovered, start, stepped};
 ghost use Rattle.log_model.specs.Steps.{Step, newest_of};
 ghost use Rattle.log_model.specs.Steps.Step.{change, compensation};
@@ -44,4 +44,21 @@ pub fn undo_takes_one_back()
 /// What an undo puts back is what stood there when the change was made.
 pub fn undo_restores()
     ensures { (s : State) (log more : List Step) (c : Change) → IsLegal s (log ++ change c ∷ more) → c.before ≡ (after s log).shown c.place }
+{}
+
+/// A restart leaves nothing that stands, and shows what the state before it stood for, with the same commits.
+pub fn restart_finishes()
+    ensures { (base : Database) (s : State) (ts : List ℕ) → IsSound base s → AreOpen ts s → Restarts s (restart_of s ts) }
+{}
+
+/// A restart that was stopped anywhere is gone on with: the next one makes the steps that are left, and comes to the same.
+pub fn restart_goes_on()
+    ensures { (base : Database) (s : State) (ts : List ℕ) (n : ℕ) → IsSound base s → AreOpen ts s → GoesOn s ts n (after s (take n (restart_of s ts))) }
+{}
+
+/// A crash within a restart stands for the base after the first of the commits, every durable one among them.
+pub fn crash_in_restart()
+    ensures { (base : Database) (s : State) (log left : List Step) (ts : List ℕ) (forced durable : ℕ) → IsSound base s → IsLegal s log → AreOpen ts (after s log)
+        → durable ≤ length (after s (take forced (log ++ restart_of (after s log) ts))).commits
+        → IsLeft (log ++ restart_of (after s log) ts) forced left → HasSomeCommits base (after s log).commits durable (recovered (after s left)) }
 {}
