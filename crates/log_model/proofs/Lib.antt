@@ -4,3 +4,5 @@ pub mod Undoing
 pub mod States
 pub mod Crashing
 pub mod Restarting
+pub mod Bases
+pub mod Forgetting

@@ -127,8 +127,8 @@ drop_ends (suc n) (t ∷ ts) = drop_ends n ts
 
 drop_restart : (n : ℕ) (cs : List Change) (ts : List ℕ) → undo_of (drop n cs) ++ ends_of (drop (n - length cs) ts) ≡ drop n (undo_of cs ++ ends_of ts)
 drop_restart n [] ts =
-    let none : drop n [] ≡ [] = drop-nil n in
     let all : n - 0 ≡ n = omega arith in
+    let none : drop n [] ≡ [] = drop-nil n in
     ap (λ (x : List Change). undo_of x ++ ends_of (drop (n - 0) ts)) none ∙ ap (λ m. ends_of (drop m ts)) all ∙ drop_ends n ts
 drop_restart zero (c ∷ cs) ts = let none : 0 - suc (length cs) ≡ 0 = omega arith in ap (λ m. undo_of (c ∷ cs) ++ ends_of (drop m ts)) none ∙ ap (λ (x : List ℕ). undo_of (c ∷ cs) ++ ends_of x) (drop_zero ts)
   where

@@ -4,3 +4,4 @@ pub mod States
 pub mod Crash
 pub mod Restart
 pub mod Forget
+pub mod Bases

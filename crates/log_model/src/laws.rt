@@ -1,12 +1,15 @@
 //! Laws of logs: what holds of every state, step and log. Each call is a proof and does nothing.
 
+ghost use Rattle.log_model.specs.Bases.{FollowsBase, as_base, net_of};
 ghost use Rattle.log_model.specs.Crash.{HasSomeCommits, IsLeft};
-ghost use Rattle.log_model.specs.Places.{Change, Database, reversed};
+ghost use Rattle.log_model.specs.Forget.{IsForgotten};
+ghost use Rattle.log_model.specs.Places.{Change, Database, Same, after_commits, laid_over, reversed};
 ghost use Rattle.log_model.specs.Restart.{AreOpen, GoesOn, Restarts, TakesBack, restart_of};
 ghost use Rattle.log_model.specs.States.{IsLegal, IsOpen, IsSound, MayFollow, State, after, recovered, start, stepped};
-ghost use Rattle.log_model.specs.Steps.{Step, newest_of};
-ghost use Rattle.log_model.specs.Steps.Step.{change, compensation};
-ghost use Rattle.std.specs.Prelude.{◌≡◌, ◌≤◌, ◌∷◌, ◌++◌, ℕ, List, Some, length, take};
+ghost use Rattle.log_model.specs.Steps.{IsOf, Step, changes_of, newest_of};
+ghost use Rattle.log_model.specs.Steps.Step.{change, commit, compensation, rolled_back};
+ghost use Rattle.table_model.specs.Tables.{Each};
+ghost use Rattle.std.specs.Prelude.{◌≡◌, ◌≤◌, ◌∷◌, ◌++◌, ℕ, List, [], Some, length, take};
 
 /// A log begins with a sound state.
 pub fn begins_sound()
@@ -61,4 +64,26 @@ pub fn crash_in_restart()
     ensures { (base : Database) (s : State) (log left : List Step) (ts : List ℕ) (forced durable : ℕ) → IsSound base s → IsLegal s log → AreOpen ts (after s log)
         → durable ≤ length (after s (take forced (log ++ restart_of (after s log) ts))).commits
         → IsLeft (log ++ restart_of (after s log) ts) forced left → HasSomeCommits base (after s log).commits durable (recovered (after s left)) }
+{}
+
+/// What a commit makes stand for good is what then stands at the places that its transaction changed.
+pub fn commits_are_net()
+    ensures { (base : Database) (s : State) (t : ℕ) (d : Database) → IsSound base s → Same (laid_over (changes_of t s.standing) d) (laid_over (net_of s.shown (changes_of t s.standing)) d) }
+{}
+
+/// Where nothing stands, what is shown is the base after the commits, and a base for all that follows.
+pub fn logs_go_on()
+    ensures base { (base : Database) (s : State) → IsSound base s → s.standing ≡ [] → IsSound s.shown (as_base s) × Same s.shown (after_commits base s.commits) }
+    ensures follows { (s : State) (log : List Step) → FollowsBase s log }
+{}
+
+/// Nothing of a transaction follows its end.
+pub fn ends_are_last()
+    ensures commit { (s : State) (log more : List Step) (t : ℕ) → IsLegal s (log ++ commit t ∷ more) → Each (λ (r : Step). IsOf t r → ⊥) more }
+    ensures rollback { (s : State) (log more : List Step) (t : ℕ) → IsLegal s (log ++ rolled_back t ∷ more) → Each (λ (r : Step). IsOf t r → ⊥) more }
+{}
+
+/// A transaction that was rolled back leaves all as if it never was.
+pub fn rollback_forgets()
+    ensures { (base : Database) (s : State) (t : ℕ) (log : List Step) → IsSound base s → changes_of t s.standing ≡ [] → IsLegal s (log ++ rolled_back t ∷ []) → IsForgotten s t log }
 {}

@@ -1,0 +1,21 @@
+-- Commits said otherwise: by what stands at their places, and over a base that a state is.
+use Rattle.std.specs.Prelude.{◌≡◌, ℕ, List, [], ◌∷◌, ◌++◌}
+use Rattle.log_model.specs.Places.{Database, Same, Change, laid_over}
+use Rattle.log_model.specs.Steps.{Step}
+use Rattle.log_model.specs.States.{State, IsLegal, IsSound, after}
+
+-- NET CHANGES: the same places, each with what stands there in the end
+abbrev pub net_of : Database → List Change → List Change
+net_of d [] = []
+net_of d (c ∷ cs) = record c { after = d c.place } ∷ net_of d cs
+
+-- a state as a base of its own: what it shows, with no commit yet
+abbrev pub as_base : State → State
+as_base s = record s { commits = [] }
+
+-- A LOG GOES ON from a base: whatever follows is as legal, shows the same, and its commits come behind those before
+pub record FollowsBase (s : State) (log : List Step) : Type 0 where
+  pub legal : IsLegal s log → IsLegal (as_base s) log
+  pub shown : (after (as_base s) log).shown ≡ (after s log).shown
+  pub standing : (after (as_base s) log).standing ≡ (after s log).standing
+  pub commits : (after s log).commits ≡ s.commits ++ (after (as_base s) log).commits
