@@ -3,12 +3,12 @@ use Rattle.std.proofs.Common.{◌≡◌, ◌≢◌, ℕ, List, [], ◌∷◌, �
 use Rattle.std.proofs.lemmas.Bool.{cases_eq}
 use Rattle.table_model.specs.Tables.{Each}
 use Rattle.table_model.proofs.TablesLemmas.{each_map}
-use Rattle.log_model.specs.Places.{Place, Database, Same, Change, put, reversed, laid_over, taken_back, after_commits}
+use Rattle.log_model.specs.Places.{Place, Database, Same, Change, put, laid_over, taken_back, after_commits}
 use Rattle.log_model.specs.Steps.{Step, IsOf, changes_of}
 use Rattle.log_model.specs.Steps.Step.{change, compensation, commit, rolled_back, silent}
-use Rattle.log_model.specs.States.{State, IsOpen, AreApart, AreStacked, MayFollow, IsLegal, IsSound, stepped, after, recovered}
+use Rattle.log_model.specs.States.{State, IsOpen, AreApart, AreStacked, MayFollow, IsLegal, IsSound, stepped, after}
 use Rattle.log_model.specs.Bases.{net_of, as_base, FollowsBase}
-use Rattle.log_model.proofs.Puts.{cases_place, put_here, put_elsewhere, put_at}
+use Rattle.log_model.proofs.Puts.{cases_place, put_here, put_elsewhere}
 use Rattle.log_model.proofs.Lists.{changes_mine, changes_other}
 use Rattle.log_model.proofs.States.{legal_rest}
 

@@ -1,17 +1,17 @@
 -- A transaction that is rolled back leaves all as if it never was.
-use Rattle.std.proofs.Common.{◌≡◌, ◌≢◌, ◌⊎◌, ℕ, List, [], ◌∷◌, ◌++◌, Option, Some, refl, sym, ◌∙◌, ap, subst, arith, inl, inr}
+use Rattle.std.proofs.Common.{◌≡◌, ◌≢◌, ℕ, List, [], ◌∷◌, ◌++◌, Option, Some, refl, sym, ◌∙◌, ap, subst, arith, inl, inr}
 use Rattle.std.specs.Prelude.{◌==◌, if◌then◌else◌}
 use Rattle.std.proofs.lemmas.Bool.Decides.{nat_tests}
 use Rattle.std.proofs.lemmas.Bool.{cases_eq}
 use Rattle.dby_types.specs.declared.value.Value.{Value}
 use Rattle.table_model.specs.Tables.{Each}
 use Rattle.table_model.proofs.TablesLemmas.{each_map}
-use Rattle.log_model.specs.Places.{Place, Database, Same, Change, put, reversed, taken_back}
+use Rattle.log_model.specs.Places.{Place, Database, Same, Change, put, taken_back}
 use Rattle.log_model.specs.Steps.{Step, changes_of, without, newest_of, without_newest}
 use Rattle.log_model.specs.Steps.Step.{change, compensation, commit, rolled_back, silent}
 use Rattle.log_model.specs.States.{State, IsOpen, IsFreeFor, AreApart, MayFollow, IsLegal, IsSound, stepped, after}
 use Rattle.log_model.specs.Forget.{forget, IsForgotten}
-use Rattle.log_model.proofs.Puts.{put_back, put_at, put_swap, taken_back_at, taken_back_same, taken_back_elsewhere}
+use Rattle.log_model.proofs.Puts.{put_back, put_at, put_swap, taken_back_same, taken_back_elsewhere}
 use Rattle.log_model.proofs.Lists.{without_mine, without_other, changes_mine, changes_other, rest_mine, rest_other, newest_mine, newest_other, none_is_none, newest_txn, newest_among, head_is, each_without, changes_rest, others_stay, without_none}
 use Rattle.log_model.proofs.States.{sound_step, after_append, legal_front, legal_rest}
 use Rattle.log_model.proofs.Bases.{mine_elsewhere, open_at_first}
@@ -80,9 +80,9 @@ newest_elsewhere t u (c ∷ cs) d ne n a = elim (cases_eq c.txn u) [
       let rest = newest_elsewhere t u cs d ne n' a.1 in
       elim (cases_eq c.txn t) [
         | inl e ↦ subst (Each (λ (y : Change). d.place ≢ y.place)) (sym (changes_mine t c cs e)) (
-            (λ same. newest_among (λ (x : Change). x.txn ≢ c.txn → c.place ≢ x.place) u cs d n' a.0 (λ k. other (sym k ∙ newest_txn u cs d n')) (sym same)),
-            rest,
-          )
+          (λ same. newest_among (λ (x : Change). x.txn ≢ c.txn → c.place ≢ x.place) u cs d n' a.0 (λ k. other (sym k ∙ newest_txn u cs d n')) (sym same)),
+          rest,
+        )
         | inr k ↦ subst (Each (λ (y : Change). d.place ≢ y.place)) (sym (changes_other t c cs k)) rest
       ]
 ]

@@ -2,6 +2,7 @@ pub mod Puts
 pub mod Lists
 pub mod Undoing
 pub mod States
+pub mod Effects
 pub mod Crashing
 pub mod Restarting
 pub mod Bases

@@ -1,16 +1,16 @@
 -- Undo and restart.
-use Rattle.std.proofs.Common.{◌≡◌, ◌≢◌, ◌≤◌, ℕ, zero, suc, ◌-◌, List, [], ◌∷◌, ◌++◌, length, take, drop, Some, refl, sym, ◌∙◌, ap, subst, append-nil, arith}
+use Rattle.std.proofs.Common.{◌≡◌, ◌≢◌, ◌≤◌, ℕ, zero, suc, ◌-◌, List, [], ◌∷◌, ◌++◌, length, take, drop, Some, refl, sym, ◌∙◌, ap, subst, arith}
 use Rattle.table_model.specs.Tables.{Each}
-use Rattle.log_model.specs.Places.{Database, Same, Change, put, reversed, taken_back}
+use Rattle.log_model.specs.Places.{Database, Change, put, reversed, taken_back}
 use Rattle.log_model.specs.Steps.{Step, changes_of, newest_of, without, without_newest}
 use Rattle.log_model.specs.Steps.Step.{change, compensation, rolled_back}
-use Rattle.log_model.specs.States.{State, IsOpen, MayFollow, IsLegal, IsSound, stepped, after, recovered}
+use Rattle.log_model.specs.States.{State, IsOpen, IsLegal, IsSound, stepped, after, recovered}
 use Rattle.log_model.specs.Restart.{TakesBack, undo_of, ends_of, restart_of, AreOpen, Restarts, GoesOn}
 use Rattle.log_model.specs.Crash.{IsLeft, HasSomeCommits}
 use Rattle.log_model.proofs.Crashing.{crash}
 use Rattle.std.proofs.lemmas.List.{take-append-drop}
 use Rattle.std.proofs.Math.Seq.{drop-nil}
-use Rattle.log_model.proofs.Lists.{newest_txn, changes_rest, others_stay, rest_mine, newest_mine, without_none}
+use Rattle.log_model.proofs.Lists.{newest_txn, changes_rest, others_stay, rest_mine, newest_mine}
 use Rattle.log_model.proofs.Undoing.{undo_sound, newest_shows}
 use Rattle.log_model.proofs.States.{after_append, legal_append, legal_rest, sound_log}
 

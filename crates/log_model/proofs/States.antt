@@ -1,12 +1,12 @@
 -- States stay sound, step by step.
-use Rattle.std.proofs.Common.{◌≡◌, ◌≢◌, ◌≤◌, ℕ, zero, suc, ◌+◌, List, [], ◌∷◌, ◌++◌, length, take, drop, Some, refl, sym, ◌∙◌, ap, subst, arith, append_assoc, append-nil}
+use Rattle.std.proofs.Common.{◌≡◌, ◌≢◌, ℕ, zero, suc, List, [], ◌∷◌, ◌++◌, take, drop, refl, sym, ◌∙◌, ap, subst, append_assoc, append-nil}
 use Rattle.std.proofs.lemmas.List.{take-append-drop}
 use Rattle.table_model.specs.Tables.{Each}
 use Rattle.table_model.proofs.TablesLemmas.{each_map}
-use Rattle.log_model.specs.Places.{Place, Database, Same, Change, put, reversed, taken_back, laid_over, after_commits}
-use Rattle.log_model.specs.Steps.{Step, changes_of, without, newest_of, without_newest}
+use Rattle.log_model.specs.Places.{Database, Same, Change, put, taken_back}
+use Rattle.log_model.specs.Steps.{Step, changes_of, without, without_newest}
 use Rattle.log_model.specs.Steps.Step.{change, compensation, commit, rolled_back, silent}
-use Rattle.log_model.specs.States.{State, IsOpen, start, stepped, after, recovered, MayFollow, IsLegal, IsSound, AreStacked}
+use Rattle.log_model.specs.States.{State, IsOpen, start, stepped, after, MayFollow, IsLegal, IsSound, AreStacked}
 use Rattle.log_model.proofs.Puts.{put_here, put_back, taken_back_same, laid_over_at, after_commits_append}
 use Rattle.log_model.proofs.Lists.{each_others, each_rest, apart_without, apart_rest, without_none}
 use Rattle.log_model.proofs.Undoing.{stacked_same, commit_stacked, commit_sound, undo_stacked, undo_sound}

@@ -1,8 +1,8 @@
 -- Commits said otherwise: by what stands at their places, and over a base that a state is.
-use Rattle.std.specs.Prelude.{◌≡◌, ℕ, List, [], ◌∷◌, ◌++◌}
-use Rattle.log_model.specs.Places.{Database, Same, Change, laid_over}
+use Rattle.std.specs.Prelude.{◌≡◌, List, [], ◌∷◌, ◌++◌}
+use Rattle.log_model.specs.Places.{Database, Change}
 use Rattle.log_model.specs.Steps.{Step}
-use Rattle.log_model.specs.States.{State, IsLegal, IsSound, after}
+use Rattle.log_model.specs.States.{State, IsLegal, after}
 
 -- NET CHANGES: the same places, each with what stands there in the end
 abbrev pub net_of : Database → List Change → List Change

@@ -1,6 +1,6 @@
 -- A log without one transaction.
 use Rattle.std.specs.Prelude.{◌≡◌, ◌==◌, if◌then◌else◌, ℕ, List, [], ◌∷◌, ◌++◌}
-use Rattle.log_model.specs.Places.{Same, Change}
+use Rattle.log_model.specs.Places.{Same}
 use Rattle.log_model.specs.Steps.{Step}
 use Rattle.log_model.specs.Steps.Step.{change, compensation, commit, rolled_back, silent}
 use Rattle.log_model.specs.States.{State, IsLegal, after}

@@ -1,6 +1,7 @@
 pub mod Places
 pub mod Steps
 pub mod States
+pub mod Effects
 pub mod Crash
 pub mod Restart
 pub mod Forget

@@ -1,10 +1,10 @@
 -- What an undo takes back, and what restart appends.
 use Rattle.std.specs.Prelude.{◌≡◌, ◌≢◌, ℕ, ◌-◌, List, [], ◌∷◌, ◌++◌, length, drop}
 use Rattle.table_model.specs.Tables.{Each}
-use Rattle.log_model.specs.Places.{Database, Same, Change, put, reversed}
+use Rattle.log_model.specs.Places.{Same, Change, put, reversed}
 use Rattle.log_model.specs.Steps.{Step, changes_of}
 use Rattle.log_model.specs.Steps.Step.{compensation, rolled_back}
-use Rattle.log_model.specs.States.{State, IsOpen, MayFollow, IsLegal, stepped, after, recovered}
+use Rattle.log_model.specs.States.{State, IsOpen, MayFollow, IsLegal, after, recovered}
 
 -- AN UNDO of a transaction's newest change may follow, and takes back that change alone: what stood before it stands again
 pub record TakesBack (s : State) (t : ℕ) (c : Change) (now : State) : Type 0 where

@@ -1,5 +1,5 @@
 -- The state that a log tells of, and which logs are legal.
-use Rattle.std.specs.Prelude.{◌≡◌, ◌≢◌, ℕ, List, [], ◌∷◌, ◌++◌, Option, Some}
+use Rattle.std.specs.Prelude.{◌≡◌, ◌≢◌, ℕ, List, [], ◌∷◌, ◌++◌, Some}
 use Rattle.table_model.specs.Tables.{Each}
 use Rattle.log_model.specs.Places.{Place, Database, Same, Change, put, reversed, taken_back, after_commits}
 use Rattle.log_model.specs.Steps.{Step, changes_of, without, newest_of, without_newest}

@@ -1,15 +1,19 @@
 //! Laws of logs: what holds of every state, step and log. Each call is a proof and does nothing.
 
+ghost use Rattle.dby_types.specs.declared.number.RowId.{RowId};
+ghost use Rattle.dby_types.specs.declared.value.Value.{Value};
 ghost use Rattle.log_model.specs.Bases.{FollowsBase, as_base, net_of};
 ghost use Rattle.log_model.specs.Crash.{HasSomeCommits, IsLeft};
+ghost use Rattle.log_model.specs.Effects.{stands_for};
 ghost use Rattle.log_model.specs.Forget.{IsForgotten};
-ghost use Rattle.log_model.specs.Places.{Change, Database, Same, after_commits, laid_over, reversed};
+ghost use Rattle.log_model.specs.Places.{Change, Database, Same, after_commits, container_place, laid_over, reversed, row_place, tables_of};
+ghost use Rattle.log_model.specs.Places as places;
 ghost use Rattle.log_model.specs.Restart.{AreOpen, GoesOn, Restarts, TakesBack, restart_of};
 ghost use Rattle.log_model.specs.States.{IsLegal, IsOpen, IsSound, MayFollow, State, after, recovered, start, stepped};
 ghost use Rattle.log_model.specs.Steps.{IsOf, Step, changes_of, newest_of};
 ghost use Rattle.log_model.specs.Steps.Step.{change, commit, compensation, rolled_back};
-ghost use Rattle.table_model.specs.Tables.{Each};
-ghost use Rattle.std.specs.Prelude.{◌≡◌, ◌≤◌, ◌∷◌, ◌++◌, ℕ, List, [], Some, length, take};
+ghost use Rattle.table_model.specs.Tables.{Each, put};
+ghost use Rattle.std.specs.Prelude.{◌≡◌, ◌≤◌, ◌∷◌, ◌++◌, ℕ, List, [], Option, Some, length, take};
 
 /// A log begins with a sound state.
 pub fn begins_sound()
@@ -24,6 +28,13 @@ pub fn stays_sound()
 /// What a legal log shows, with what stands taken back, is the base after its commits.
 pub fn legal_is_sound()
     ensures { (base : Database) (log : List Step) → IsLegal (start base) log → IsSound base (after (start base) log) }
+{}
+
+/// A step that may follow leaves the log legal, behind it the state is one step further, and only a commit changes what the state stands for.
+pub fn logs_grow()
+    ensures legal { (s : State) (log : List Step) (r : Step) → IsLegal s log → MayFollow (after s log) r → IsLegal s (log ++ r ∷ []) }
+    ensures state { (s : State) (log : List Step) (r : Step) → after s (log ++ r ∷ []) ≡ stepped (after s log) r }
+    ensures same { (base : Database) (s : State) (r : Step) → IsSound base s → MayFollow s r → Same (recovered (stepped s r)) (stands_for s r) }
 {}
 
 /// A front of a legal log is legal, and its commits are the first ones.
@@ -86,4 +97,10 @@ pub fn ends_are_last()
 /// A transaction that was rolled back leaves all as if it never was.
 pub fn rollback_forgets()
     ensures { (base : Database) (s : State) (t : ℕ) (log : List Step) → IsSound base s → changes_of t s.standing ≡ [] → IsLegal s (log ++ rolled_back t ∷ []) → IsForgotten s t log }
+{}
+
+/// A put at a row's place is one in the tables, and one at a container's own place is none.
+pub fn rows_are_places()
+    ensures row { (d : Database) (table t : ℕ) (rid r : RowId) (x : Option (List Value)) → tables_of (places.put d (row_place table rid) x) t r ≡ put (tables_of d) table rid x t r }
+    ensures container { (d : Database) (n t : ℕ) (r : RowId) (x : Option (List Value)) → tables_of (places.put d (container_place n) x) t r ≡ tables_of d t r }
 {}
