@@ -7,3 +7,4 @@ pub mod Crashing
 pub mod Restarting
 pub mod Bases
 pub mod Forgetting
+pub mod ReadingAs

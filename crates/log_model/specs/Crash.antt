@@ -4,14 +4,14 @@ use Rattle.log_model.specs.Places.{Database, Same, Change, after_commits}
 use Rattle.log_model.specs.Steps.{Step}
 
 -- A CRASH leaves the first steps of a log, all that were forced among them
-pub record IsLeft (log : List Step) (forced : ℕ) (left : List Step) : Type 0 where
+pub record IsLeft {X : Type 0} (log : List (Step X)) (forced : ℕ) (left : List (Step X)) : Type 0 where
   pub kept : ℕ
   pub at_least : forced ≤ kept
   pub at_most : kept ≤ length log
   pub is : left ≡ take kept log
 
 -- THE BASE AFTER SOME OF THE COMMITS: the first ones, every durable one among them
-pub record HasSomeCommits (base : Database) (commits : List (List Change)) (durable : ℕ) (d : Database) : Type 0 where
+pub record HasSomeCommits {X : Type 0} (base : Database X) (commits : List (List (Change X))) (durable : ℕ) (d : Database X) : Type 0 where
   pub kept : ℕ
   pub at_least : durable ≤ kept
   pub at_most : kept ≤ length commits

@@ -5,7 +5,7 @@ use Rattle.log_model.specs.Steps.Step.{change, compensation, commit, rolled_back
 use Rattle.log_model.specs.States.{State, recovered}
 
 -- a commit lays its transaction's changes over it; no other step makes any difference
-abbrev pub stands_for : State → Step → Database
+abbrev pub stands_for : {X : Type 0} → State X → Step X → Database X
 stands_for s (change c) = recovered s
 stands_for s (compensation c) = recovered s
 stands_for s (commit t) = laid_over (changes_of t s.standing) (recovered s)

@@ -6,3 +6,4 @@ pub mod Crash
 pub mod Restart
 pub mod Forget
 pub mod Bases
+pub mod ReadAs

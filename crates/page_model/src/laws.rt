@@ -38,15 +38,15 @@ pub fn pages_follow<R, X>()
 {}
 
 /// Pages show what the log's steps make, record by record.
-pub fn pages_show<R, X>()
-    ensures { (m : Reading R X) (s : State) (first : PageId → X) (log : List R) (r : R) → AreShown m s first log
+pub fn pages_show<R, X, V>()
+    ensures { (m : Reading R X V) (s : State V) (first : PageId → X) (log : List R) (r : R) → AreShown m s first log
         → Same (m.view (λ p. m.write r p (pages_after m first log p))) (stepped (after s (steps_of m log)) (m.step r)).shown
         → AreShown m s first (log ++ r ∷ []) }
 {}
 
 /// An image stands for the base after the first of the commits, every durable one among them.
-pub fn image_stands<R, X>()
-    ensures { (m : Reading R X) (base : Database) (s : State) (first : PageId → X) (log left : List R) (pages : PageId → Version X) (forced durable : ℕ)
+pub fn image_stands<R, X, V>()
+    ensures { (m : Reading R X V) (base : Database V) (s : State V) (first : PageId → X) (log left : List R) (pages : PageId → Version X) (forced durable : ℕ)
         → IsSound base s → IsLegal s (steps_of m log) → AreShown m s first log → durable ≤ length (after s (steps_of m (take forced log))).commits
         → IsImage m.write first log forced pages left → HasSomeCommits base (after s (steps_of m log)).commits durable (after_image m s pages left) }
 {}

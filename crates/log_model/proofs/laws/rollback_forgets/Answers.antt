@@ -2,4 +2,4 @@ use Rattle.log_model.proofs.Forgetting.{forgotten}
 use Rattle.log_model.proofs.laws.rollback_forgets.Goals as goal
 
 pub returns : goal.returns
-returns c = forgotten
+returns c d = forgotten
