@@ -1,6 +1,6 @@
 -- What a crash leaves has the base after some of the commits.
-use Rattle.std.proofs.Common.{◌≡◌, ◌≤◌, ℕ, List, length, take, sym, ◌∙◌, ap, subst, arith, length-append}
-use Rattle.std.proofs.lemmas.List.{take-take}
+use Rattle.std.proofs.Common.{◌≡◌, ◌≤◌, ℕ, List, ◌++◌, length, take, sym, ◌∙◌, ap, subst, arith, length-append}
+use Rattle.std.proofs.lemmas.List.{take-take, take-append-le}
 use Rattle.std.proofs.Math.Seq.{take-append_seam}
 use Rattle.log_model.specs.Places.{Database, Change, after_commits}
 use Rattle.log_model.specs.Steps.{Step}
@@ -37,3 +37,13 @@ module _ {X : Type 0} where
       → IsLeft log forced left → HasSomeCommits base (after s log).commits durable (recovered (after s left))
   crash base s log left forced durable ok legal few h =
       subst (λ (l : List (Step X)). HasSomeCommits base (after s log).commits durable (recovered (after s l))) (sym h.is) (some base s log forced durable h.kept ok legal few h.at_least)
+
+  -- more commits, and fewer durable ones
+  pub some_stay : (base : Database X) (commits more : List (List (Change X))) (durable fewer : ℕ) (d : Database X) → fewer ≤ durable
+      → HasSomeCommits base commits durable d → HasSomeCommits base (commits ++ more) fewer d
+  some_stay base commits more durable fewer d le h = record {
+    kept = h.kept;
+    at_least = omega (arith, le, h.at_least);
+    at_most = omega (arith, h.at_most, length-append commits more);
+    same = λ p. h.same p ∙ ap (λ (x : List (List (Change X))). after_commits base x p) (sym (take-append-le h.kept commits more h.at_most));
+  }

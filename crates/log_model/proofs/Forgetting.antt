@@ -11,22 +11,11 @@ use Rattle.log_model.specs.Steps.Step.{change, compensation, commit, rolled_back
 use Rattle.log_model.specs.States.{State, IsOpen, IsFreeFor, AreApart, MayFollow, IsLegal, IsSound, stepped, after}
 use Rattle.log_model.specs.Forget.{forget, IsForgotten}
 use Rattle.log_model.proofs.Puts.{put_back, put_at, put_swap, taken_back_same, taken_back_elsewhere}
-use Rattle.log_model.proofs.Lists.{without_mine, without_other, changes_mine, changes_other, rest_mine, rest_other, newest_mine, newest_other, none_is_none, newest_txn, newest_among, head_is, each_without, changes_rest, others_stay, without_none}
+use Rattle.log_model.proofs.Lists.{without_mine, without_other, changes_mine, changes_other, rest_mine, rest_other, newest_mine, newest_other, none_is_none, newest_txn, newest_among, head_is, each_without, changes_rest, changes_without, others_stay, without_none}
 use Rattle.log_model.proofs.States.{sound_step, after_append, legal_front, legal_rest}
 use Rattle.log_model.proofs.Bases.{mine_elsewhere, open_at_first}
 
 module _ {X : Type 0} where
-  -- a list's changes of a transaction without another's
-  changes_without : (t u : ℕ) (cs : List (Change X)) → u ≢ t → changes_of u (without t cs) ≡ changes_of u cs
-  changes_without t u [] ne = refl
-  changes_without t u (c ∷ cs) ne = elim (cases_eq c.txn t) [
-    | inl e ↦ ap (changes_of u) (without_mine t c cs e) ∙ changes_without t u cs ne ∙ sym (changes_other u c cs (λ k. ne (sym k ∙ e)))
-    | inr other ↦ ap (changes_of u) (without_other t c cs other) ∙ elim (cases_eq c.txn u) [
-      | inl k ↦ changes_mine u c (without t cs) k ∙ ap (λ (x : List (Change X)). c ∷ x) (changes_without t u cs ne) ∙ sym (changes_mine u c cs k)
-      | inr k ↦ changes_other u c (without t cs) k ∙ changes_without t u cs ne ∙ sym (changes_other u c cs k)
-    ]
-  ]
-
   newest_without : (t u : ℕ) (cs : List (Change X)) → u ≢ t → newest_of u (without t cs) ≡ newest_of u cs
   newest_without t u [] ne = refl
   newest_without t u (c ∷ cs) ne = elim (cases_eq c.txn t) [

@@ -1,5 +1,6 @@
 pub mod Puts
 pub mod Lists
+pub mod Apiece
 pub mod Undoing
 pub mod States
 pub mod Effects

@@ -114,6 +114,17 @@ module _ {X : Type 0} where
     ]
   ]
 
+  -- a list's changes of a transaction without another's
+  pub changes_without : (t u : ℕ) (cs : List (Change X)) → u ≢ t → changes_of u (without t cs) ≡ changes_of u cs
+  changes_without t u [] ne = refl
+  changes_without t u (c ∷ cs) ne = elim (cases_eq c.txn t) [
+    | inl e ↦ ap (changes_of u) (without_mine t c cs e) ∙ changes_without t u cs ne ∙ sym (changes_other u c cs (λ k. ne (sym k ∙ e)))
+    | inr other ↦ ap (changes_of u) (without_other t c cs other) ∙ elim (cases_eq c.txn u) [
+      | inl k ↦ changes_mine u c (without t cs) k ∙ ap (λ (x : List (Change X)). c ∷ x) (changes_without t u cs ne) ∙ sym (changes_mine u c cs k)
+      | inr k ↦ changes_other u c (without t cs) k ∙ changes_without t u cs ne ∙ sym (changes_other u c cs k)
+    ]
+  ]
+
   -- none of a transaction: all are of others
   pub without_none : (t : ℕ) (cs : List (Change X)) → changes_of t cs ≡ [] → without t cs ≡ cs
   without_none t [] none = refl

@@ -2,6 +2,7 @@
 
 ghost use Rattle.dby_types.specs.declared.number.RowId.{RowId};
 ghost use Rattle.dby_types.specs.declared.value.Value.{Value};
+ghost use Rattle.log_model.specs.Apiece.{list_after};
 ghost use Rattle.log_model.specs.Bases.{FollowsBase, as_base, net_of};
 ghost use Rattle.log_model.specs.Crash.{HasSomeCommits, IsLeft};
 ghost use Rattle.log_model.specs.Effects.{stands_for};
@@ -48,6 +49,16 @@ pub fn fronts_are_legal<X>()
 pub fn crash_keeps_commits<X>()
     ensures { (base : Database X) (s : State X) (log left : List (Step X)) (forced durable : ℕ) → IsSound base s → IsLegal s log → durable ≤ length (after s (take forced log)).commits
         → IsLeft log forced left → HasSomeCommits base (after s log).commits durable (recovered (after s left)) }
+{}
+
+/// What has some of the commits has some of more of them, with as many durable ones or fewer.
+pub fn some_commits_stay<X>()
+    ensures { (base : Database X) (commits more : List (List (Change X))) (durable fewer : ℕ) (d : Database X) → fewer ≤ durable → HasSomeCommits base commits durable d → HasSomeCommits base (commits ++ more) fewer d }
+{}
+
+/// Each transaction's list of changes that stand goes by its own steps alone.
+pub fn lists_follow<X>()
+    ensures { (s : State X) (r : Step X) (t : ℕ) → changes_of t (stepped s r).standing ≡ list_after t (changes_of t s.standing) r }
 {}
 
 /// The undo of a transaction's newest change may follow, and takes back that change alone.
