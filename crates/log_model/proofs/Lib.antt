@@ -9,3 +9,4 @@ pub mod Restarting
 pub mod Bases
 pub mod Forgetting
 pub mod ReadingAs
+pub mod Examples
