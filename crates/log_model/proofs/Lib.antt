@@ -1,0 +1,12 @@
+pub mod Puts
+pub mod Lists
+pub mod Apiece
+pub mod Undoing
+pub mod States
+pub mod Effects
+pub mod Crashing
+pub mod Restarting
+pub mod Bases
+pub mod Forgetting
+pub mod ReadingAs
+pub mod Examples

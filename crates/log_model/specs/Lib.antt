@@ -1,0 +1,10 @@
+pub mod Places
+pub mod Steps
+pub mod States
+pub mod Effects
+pub mod Apiece
+pub mod Crash
+pub mod Restart
+pub mod Forget
+pub mod Bases
+pub mod ReadAs
