@@ -116,7 +116,7 @@ own_few : (c : ℕ) (answer : Step) (ns ns' : List Next) (v v' : View) (n : ℕ)
 own_few c answer ns ns' v v' n false is h bounded few = omega arith
 own_few c answer ns ns' v v' n true is h bounded few =
     subst (λ xs. n + 1 ≤ most (rank (next_at xs c)) v'.pages (v'.actors (c + 1)).turns) (sym h.moved) (elim (next_moved ns c h.to) [
-      inl same ↦ subst (λ x. n + 1 ≤ most (rank x) v'.pages (v'.actors (c + 1)).turns) (sym same)
+      | inl same ↦ subst (λ x. n + 1 ≤ most (rank x) v'.pages (v'.actors (c + 1)).turns) (sym same)
           (most_leads (rank (next_at ns c)) (rank h.to) v.pages v'.pages (v.actors (c + 1)).turns (v'.actors (c + 1)).turns n (h.leads is) (rank_few (next_at ns c)) (bounded (c + 1)) h.acts.more_pages few)
       | inr past ↦ absurd (never_on (rank h.to) (v.actors (c + 1)).turns (v'.actors (c + 1)).turns (subst (λ x. Leads (rank x) (rank h.to) (v.actors (c + 1)).turns (v'.actors (c + 1)).turns) past.0 (h.leads is)))
     ])
@@ -128,7 +128,7 @@ other_few c k answer ns ns' v v' n ne h few =
     let turns : (v'.actors (k + 1)).turns ≡ (v.actors (k + 1)).turns = ap (λ (x : Holding). x.turns) (h.acts.others (k + 1) (λ e. ne (omega (arith, e)))) in
     let more = most_grows (rank (next_at ns k)) v.pages v'.pages (v.actors (k + 1)).turns h.acts.more_pages in
     let same : most (rank (next_at ns' k)) v'.pages (v'.actors (k + 1)).turns ≡ most (rank (next_at ns k)) v'.pages (v.actors (k + 1)).turns =
-      ap (λ x. most (rank x) v'.pages (v'.actors (k + 1)).turns) next ∙ ap (most (rank (next_at ns k)) v'.pages) turns in
+    ap (λ x. most (rank x) v'.pages (v'.actors (k + 1)).turns) next ∙ ap (most (rank (next_at ns k)) v'.pages) turns in
     omega (arith, few, more, same)
 
 -- the counts behind a step of a connection
@@ -178,7 +178,7 @@ still_left scripts c answer es es' ns ns' v v' ways grows ended still bare same 
     let ways' : ℕ → ℕ = at_number ways c 0 in
     let own : ways' c ≡ 0 = at_same ways c 0 in
     let left : AreFew ways' ns v = λ k. elim (same_or_not (k + 1) c) [
-      inl e ↦ (let none : ways' (k + 1) ≡ 0 = ap ways' e ∙ own in omega (arith, none))
+      | inl e ↦ (let none : ways' (k + 1) ≡ 0 = ap ways' e ∙ own in omega (arith, none))
       | inr ne ↦ (let was : ways' (k + 1) ≡ ways (k + 1) = at_other ways c 0 (k + 1) ne in let f = few k in omega (arith, was, f))
     ] in
     subst (λ (x : View). Leaves (λ new. IsStep scripts c (seen es v ways) new answer) es' ns' x) (sym kept)

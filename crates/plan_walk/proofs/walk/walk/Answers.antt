@@ -14,8 +14,8 @@ returns-in-Some-clause-walk g c =
     let items = c.lines-line-items.result.now in
     let lt : c.loop-line.line-index < length items = omega arith in
     let walked : Does (λ old new. IsWalk a.0 items old new c.in-Some.how) a.1 n.1 a.5 n.5 (g.S.RowStore.view a.3) (g.S.RowStore.view n.3) =
-      ends_does a.0 l.0 items c.loop-line.line-index _ _ c.walk_line-last.result c.in-Some.how a.1 l.1 n.1 a.5 l.5 n.5 (g.S.RowStore.view a.3) (g.S.RowStore.view l.3) (g.S.RowStore.view n.3)
-        c.walk_line-last.ensures.line refl c.loop-line.invariant.same lt (sym c.halt.ensures ∙ c.in-Some.is) c.loop-line.invariant.walks in
+    ends_does a.0 l.0 items c.loop-line.line-index _ _ c.walk_line-last.result c.in-Some.how a.1 l.1 n.1 a.5 l.5 n.5 (g.S.RowStore.view a.3) (g.S.RowStore.view l.3) (g.S.RowStore.view n.3)
+    c.walk_line-last.ensures.line refl c.loop-line.invariant.same lt (sym c.halt.ensures ∙ c.in-Some.is) c.loop-line.invariant.walks in
     subst (λ (ls : List StepLine). Does (λ old new. IsWalk a.0 ls old new c.in-Some.how) a.1 n.1 a.5 n.5 (g.S.RowStore.view a.3) (g.S.RowStore.view n.3)) c.lines-line-items.ensures.lines walked
 
 pub returns-in-Some-clause-stops : goal.returns-in-Some-clause-stops
@@ -38,7 +38,7 @@ loop-line-preserved g c =
       same = c.walk_line-last.ensures.same ∙ c.loop-line.invariant.same;
       stops = c.walk_line-last.ensures.stops ∙ line_unstopped c.walk_line-last.result l.4 goes ∙ c.loop-line.invariant.stops;
       walks = goes_does a.0 l.0 items c.loop-line.line-index _ _ c.walk_line-last.result a.1 l.1 n.1 a.5 l.5 n.5 (g.S.RowStore.view a.3) (g.S.RowStore.view l.3) (g.S.RowStore.view n.3)
-        c.walk_line-last.ensures.line refl c.loop-line.invariant.same lt goes c.loop-line.invariant.walks;
+          c.walk_line-last.ensures.line refl c.loop-line.invariant.same lt goes c.loop-line.invariant.walks;
     }
 
 pub returns-clause-walk : goal.returns-clause-walk

@@ -11,7 +11,7 @@ returns-then-pauses-clause-line g c =
     then_does (λ old new. Goes a.0 c.args.line.connection c.loop.counter old new) (λ old new. IsStep l.0 c.args.line.connection old new c.make-step.result) (λ old new. IsLine a.0 c.args.line old new (Some c.make-step.result))
     a.1 l.1 n.1 a.5 l.5 n.5 (g.S.RowStore.view a.3) (g.S.RowStore.view l.3) (g.S.RowStore.view n.3)
     (λ old mid new w s. line_paused a.0 c.args.line c.loop.counter old mid new c.make-step.result w (let t = c.loop-test.true in omega (arith, t)) (sym c.pauses.ensures ∙ c.if-pauses.true)
-      (subst (λ ss. IsStep ss c.args.line.connection mid new c.make-step.result) c.loop.invariant.same s))
+    (subst (λ ss. IsStep ss c.args.line.connection mid new c.make-step.result) c.loop.invariant.same s))
     c.loop.invariant.goes c.make-step.ensures.step
 
 pub loop-preserved : goal.loop-preserved
@@ -25,10 +25,10 @@ loop-preserved g c =
       stops = c.make-step.ensures.stops ∙ goes_unstopped c.make-step.result l.4 apart ∙ c.loop.invariant.stops;
       most = (let t = c.loop-test.true in omega (arith, t));
       goes = then_does (λ old new. Goes a.0 c.args.line.connection c.loop.counter old new) (λ old new. IsStep l.0 c.args.line.connection old new c.make-step.result) (λ old new. Goes a.0 c.args.line.connection (c.loop.counter + 1) old new)
-        a.1 l.1 n.1 a.5 l.5 n.5 (g.S.RowStore.view a.3) (g.S.RowStore.view l.3) (g.S.RowStore.view n.3)
-        (λ old mid new w s. goes_one_more a.0 c.args.line.connection c.loop.counter old mid new c.make-step.result w
+          a.1 l.1 n.1 a.5 l.5 n.5 (g.S.RowStore.view a.3) (g.S.RowStore.view l.3) (g.S.RowStore.view n.3)
+          (λ old mid new w s. goes_one_more a.0 c.args.line.connection c.loop.counter old mid new c.make-step.result w
           (subst (λ ss. IsStep ss c.args.line.connection mid new c.make-step.result) c.loop.invariant.same s) apart)
-        c.loop.invariant.goes c.make-step.ensures.step;
+          c.loop.invariant.goes c.make-step.ensures.step;
     }
 
 pub returns-clause-line : goal.returns-clause-line
