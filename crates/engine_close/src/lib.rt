@@ -3,6 +3,4 @@
 
 pub mod close;
 mod ending;
-#[cfg(test)]
-mod tests;
 mod undoing;
