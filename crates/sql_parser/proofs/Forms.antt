@@ -8,7 +8,7 @@ use Rattle.sql_grammar.specs.declared.word.Key.TheVariants as key
 use Rattle.sql_grammar.specs.declared.word.Word.TheVariants as word
 use Rattle.sql_grammar.specs.Classes.{same}
 use Rattle.sql_grammar.proofs.Classes.{same-one}
-use Rattle.sql_grammar.specs.Rules.{Rule, either, Parsed, nothing, left, right, class_of}
+use Rattle.sql_grammar.specs.Rules.{Rule, either, Parsed, left, right, class_of}
 use Rattle.sql_grammar.specs.Grammar.{create, drop_rule, insert, update, delete, select, lock, isolation, autocommit, commit, rollback, statement}
 use Rattle.sql_grammar.specs.Reading.{Outcome, took, wrong, deep, bind, starts, begins, read, read_either}
 use Rattle.sql_tokens.specs.Reading.{reading, Fails}

@@ -1,7 +1,6 @@
 -- What is read of a text is what the grammar says of it.
-use Rattle.std.proofs.Common.{◌≡◌, ◌≤◌, ℕ, List, [], length, drop, Some, refl, sym, ap, subst, ◌∙◌, arith}
+use Rattle.std.proofs.Common.{◌≡◌, ℕ, List, [], length, drop, refl, sym, subst, ◌∙◌, arith}
 use Rattle.std.specs.Prelude.{Result, Ok, Err, IfOk, IfErr, MatchResult}
-use Rattle.sql_lexer.specs.declared.token.Token.{Token as TextToken}
 use Rattle.sql_lexer.specs.Tokens.{tokens_of}
 use Rattle.sql_ast.specs.declared.statement.Statement.{Statement}
 use Rattle.sql_grammar.specs.Syntax.{Token}
@@ -10,7 +9,7 @@ use Rattle.sql_grammar.specs.Reading.{Outcome, took, wrong, deep}
 use Rattle.sql_grammar.specs.Tokens.{seen, tokens_in}
 use Rattle.sql_grammar.specs.Verdict.{IsStatement, IsVerdict, whole}
 use Rattle.sql_grammar.proofs.Verdict.{verdict, one-statement, took-value}
-use Rattle.sql_parser.specs.Answers.{Answered, IsCause, limit, place}
+use Rattle.sql_parser.specs.Answers.{Answered, IsCause, limit}
 use Rattle.sql_parser.specs.Statements.{statement_said}
 use Rattle.sql_parser.specs.declared.parse.ParseAnswer.{ParseAnswer}
 use Rattle.sql_parser.specs.declared.parse.ParseAnswer.TheVariants as answer

@@ -24,7 +24,11 @@ use std::alloc::Global;
 
 /// A table's parts, in brackets.
 #[tactic(auto, using(sql_tokens::proofs::Orders::sequences))]
-fn bracketed_parts(alloc: Global, tokens: &[Token], at: &mut usize) -> Result<Seq<TablePart>, Failing>
+fn bracketed_parts(
+    alloc: Global,
+    tokens: &[Token],
+    at: &mut usize,
+) -> Result<Seq<TablePart>, Failing>
     ensures { Reads (bracketed (and_then g.column (many (skip comma g.table_part)))) parts_said tokens.now at.old at.new result }
 {
     token(tokens, at, Class::Open)?;

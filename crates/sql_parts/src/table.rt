@@ -194,7 +194,11 @@ fn first(alloc: Global, column: ColumnText) -> Result<Vec<TablePart>, Failing>
 
 /// What stands in the brackets of CREATE TABLE: a column, and further parts.
 #[tactic(auto, using(sql_tokens::proofs::Orders::failed, sql_tokens::proofs::Orders::order_first, crate::proofs::Firsts::parts_told))]
-pub fn table_parts(alloc: Global, tokens: &[Token], at: &mut usize) -> Result<Seq<TablePart>, Failing>
+pub fn table_parts(
+    alloc: Global,
+    tokens: &[Token],
+    at: &mut usize,
+) -> Result<Seq<TablePart>, Failing>
     ensures { Reads (and_then g.column (many (skip comma g.table_part))) parts_said tokens.now at.old at.new result }
 {
     let column = column(alloc, tokens, at)?;
