@@ -5,8 +5,7 @@ use Rattle.sql_ast.specs.declared.statement.ColumnText.{ColumnText}
 use Rattle.sql_ast.specs.declared.statement.TablePart.{TablePart}
 use Rattle.sql_ast.specs.declared.statement.TablePart.TheVariants as part
 use Rattle.sql_grammar.specs.Syntax.{Token}
-use Rattle.sql_grammar.specs.Rules.{Rule, and_then, many, skip, Parsed, nothing, pair, left}
-use Rattle.sql_grammar.specs.Grammar.{comma, table_part}
+use Rattle.sql_grammar.specs.Rules.{Rule, and_then, Parsed, nothing, pair, left}
 use Rattle.sql_grammar.specs.Reading.{Outcome, took, wrong, deep, bind, read}
 use Rattle.sql_tokens.specs.Reading.{reading, Tells}
 use Rattle.sql_tokens.specs.declared.failing.Failing.{Failing}

@@ -11,13 +11,7 @@ fn mark(alloc: Global, text: &str, at: usize) -> &'static str {
     }
     match parse(alloc, text) {
         Ok(_statement) => "1",
-        Err(ParseAnswer::Syntax { at: found }) => {
-            if found as usize == at {
-                "0"
-            } else {
-                "?"
-            }
-        }
+        Err(ParseAnswer::Syntax { at: found }) => { if found as usize == at { "0" } else { "?" } }
         Err(ParseAnswer::Deep) => "?",
         Err(ParseAnswer::Memory) => "?",
     }
@@ -65,7 +59,10 @@ fn is_cut_behind_each_word(rt: HostRuntime) -> Result<(), Fail> {
             "UPDATE T SET A = A + 1 , B = NULL WHERE NOT A IN ( 1 , 2 )",
             "000001010001001000001",
         ),
-        ("DELETE FROM T WHERE A IS NOT NULL OR B = 'x' AND A < 3", "0010100101010101"),
+        (
+            "DELETE FROM T WHERE A IS NOT NULL OR B = 'x' AND A < 3",
+            "0010100101010101",
+        ),
         (
             "SELECT DISTINCT A X , COUNT ( * ) AS N FROM T U INNER JOIN V ON TRUE , W GROUP BY U . A , B ORDER BY A DESC , 2",
             "0000000000001100001010010101001101",

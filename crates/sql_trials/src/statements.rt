@@ -77,7 +77,10 @@ fn names_the_place_of_a_fault(rt: HostRuntime) -> Result<(), Fail> {
         ("DELETE FROM TABLE", "wrong at 12"),
         ("DELETE FROM T WHERE  ", "wrong at 21"),
         ("DELETE FROM T WHERE 'a", "wrong at 20"),
-        ("INSERT INTO T VALUES ('')", "Insert { table: Seq { items: [84] }, columns: None, tuples: Seq { items: [Seq { items: [Value(Text(Seq { items: [] }))] }] } }"),
+        (
+            "INSERT INTO T VALUES ('')",
+            "Insert { table: Seq { items: [84] }, columns: None, tuples: Seq { items: [Seq { items: [Value(Text(Seq { items: [] }))] }] } }",
+        ),
         ("INSERT INTO T VALUES (NULL + 1)", "wrong at 27"),
         ("INSERT INTO T VALUES ()", "wrong at 22"),
         ("CREATE TABLE T(A VARCHAR(1001))", "wrong at 25"),
