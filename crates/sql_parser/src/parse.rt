@@ -64,10 +64,11 @@ fn read(alloc: Global, tokens: &[Token], end: u32) -> Result<Statement, ParseAns
     }
 }
 
-/// The statement that a text is.
+/// The statement that a text is, with the tree that the grammar gives it.
 ///
-/// Any other answer has its cause: `Syntax` is told of the first token with which no statement goes on, or of the text's end
-/// where one would go on; `Deep` where a token in front of that one leads to expressions deeper than 200 alone.
+/// Else `Syntax` tells the byte where the first token stands with which no statement goes on, or the text's end where one would go
+/// on; `Deep`, that the first token which can't stand goes on with expressions deeper than 200 alone; `Memory`, that memory is
+/// wanting.
 #[tactic(auto, using(crate::proofs::Verdicts::told_ok, crate::proofs::Verdicts::told_err, crate::proofs::Verdicts::told_exact))]
 pub fn parse(alloc: Global, text: &str) -> Result<Statement, ParseAnswer>
     requires { length text.now < 2 ^ 32 }
