@@ -1,5 +1,5 @@
 -- What the parts of CREATE and DROP say, in the words of the grammar's rules.
-use Rattle.std.specs.Prelude.{ℕ, List, [], ◌∷◌}
+use Rattle.std.specs.Prelude.{ℕ, List, ◌∷◌}
 use Rattle.dby_types.specs.declared.value.Ty.{Ty}
 use Rattle.dby_types.specs.declared.value.Ty.TheVariants as ty
 use Rattle.sql_ast.specs.declared.statement.ColumnMark.{ColumnMark}
