@@ -7,7 +7,7 @@ use Rattle.sql_grammar.specs.Syntax as s
 use Rattle.sql_grammar.specs.declared.word.Key.TheVariants as key
 use Rattle.sql_grammar.specs.declared.word.Word.TheVariants as word
 use Rattle.sql_grammar.specs.Grammar.{names, condition, type_rule, mark, column, table_part, create_table, create_index, create, drop_rule, item, tuple, insert, set_part, update, delete, alias, out_part, tab, join, from_part, group_part, order_part, shown, grouping, ordering, select, lock, level, isolation, autocommit, commit, rollback, statement}
-use Rattle.sql_grammar.specs.Reading.{Outcome, took, wrong}
+use Rattle.sql_grammar.specs.Reading.{Outcome, took, wrong, read}
 use Rattle.sql_grammar.specs.Verdict.{whole}
 
 -- 1 where the tokens are a statement, 0 where their end alone is wrong
@@ -310,3 +310,9 @@ minus_huge_twice-fault : whole None (
     huge ∷ keyword key.From ∷ name word.Plain (codes "T") ∷ [])
 unfolding names condition type_rule mark column table_part create_table create_index create drop_rule item tuple insert set_part update delete alias out_part tab join from_part group_part order_part shown grouping ordering select lock level isolation autocommit commit rollback statement
 minus_huge_twice-fault = refl
+
+-- ORDER BY A ASC says what ORDER BY A says
+asc-says_nothing :
+    read None order_part (name word.Plain (codes "A") ∷ keyword key.Asc ∷ []) ≡ read None order_part (name word.Plain (codes "A") ∷ [])
+unfolding order_part
+asc-says_nothing = refl

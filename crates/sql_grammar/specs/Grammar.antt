@@ -3,7 +3,7 @@ use Rattle.sql_grammar.specs.Classes.{Key, Word}
 use Rattle.sql_grammar.specs.declared.word.Class.TheVariants as class
 use Rattle.sql_grammar.specs.declared.word.Key.TheVariants as key
 use Rattle.sql_grammar.specs.declared.word.Word.TheVariants as word
-use Rattle.sql_grammar.specs.Rules.{Rule, this, a_name, a_size, a_number, an_expr, and_then, skip, keep, silent, either, maybe, many}
+use Rattle.sql_grammar.specs.Rules.{Rule, this, a_name, a_size, a_number, an_expr, order, directed, and_then, skip, keep, silent, either, maybe, many}
 
 -- a reserved word
 abbrev pub reserved : Key → Rule
@@ -134,9 +134,9 @@ from_part = and_then tab (many join)
 unfoldable pub group_part : Rule
 group_part = and_then a_name (maybe (skip (this class.Dot) a_name))
 
--- key = (name | number) [ASC | DESC]
+-- key = (name | number) [ASC | DESC], of which is kept whether it is DESC
 unfoldable pub order_part : Rule
-order_part = and_then (either a_name a_number) (maybe (either (reserved key.Asc) (reserved key.Desc)))
+order_part = order directed (either a_name a_number) (maybe (either (reserved key.Asc) (reserved key.Desc)))
 
 -- "*" | out { "," out }
 unfoldable pub shown : Rule

@@ -58,7 +58,7 @@ pub data Parsed : Type 0 where
 
 -- what is kept of two rules, one behind the other
 pub data Keeping : Type 0 where
-  pairs firsts seconds : Keeping
+  pairs firsts seconds directed : Keeping
 
 pub data Rule : Type 0 where
   this : Class → Rule  -- a token of this class
@@ -83,10 +83,16 @@ skip = order seconds
 abbrev pub keep : Rule → Rule → Rule
 keep = order firsts
 
+-- of [ASC | DESC]: whether it is DESC, so ASC says what its absence says
+abbrev pub descent : Parsed → Parsed
+descent (present (right x)) = present nothing
+descent _ = nothing
+
 abbrev pub kept : Keeping → Parsed → Parsed → Parsed
 kept pairs v w = pair v w
 kept firsts v w = v
 kept seconds v w = w
+kept directed v w = pair v (descent w)
 
 -- an expression within the limit of depth, where there is one
 abbrev pub IsWithin : Option ℕ → Tree → Type 0

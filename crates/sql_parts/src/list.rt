@@ -40,7 +40,7 @@ pub trait Repeating: Part {
 }
 
 /// Puts a part at the end.
-fn put<T: Drop>(items: &mut Vec<T>, item: T) -> Result<(), Failing>
+pub fn put<T: Drop>(items: &mut Vec<T>, item: T) -> Result<(), Failing>
     ensures ok { OnOk result (items.new.items ≡ items.old.items ++ item ∷ []) }
     ensures err { MatchResult result (λ u. Unit {0}) (λ e. e ≡ Failing.Memory) }
 {

@@ -3,7 +3,8 @@
 ghost use Rattle.std.specs.Prelude.{◌≡◌, [], ◌∷◌, List, ℕ, drop, if◌then◌else◌};
 ghost use Rattle.sql_grammar.specs.Syntax as s;
 ghost use Rattle.sql_grammar.specs.Rules.{a_name, a_number, a_size, counted, named, nothing, this};
-ghost use Rattle.sql_grammar.specs.Reading.{starts};
+ghost use Rattle.sql_grammar.specs.Classes.{has};
+ghost use Rattle.sql_grammar.specs.Reading.{names_begin, starts};
 ghost use Rattle.sql_grammar.specs.Tokens.{seen, token_from};
 ghost use Rattle.sql_tokens.specs.Reading.{Passes, Reads, has_next, reading, single};
 
@@ -11,7 +12,7 @@ use crate::failing::Failing;
 use dby_types::copies::copy_text;
 use dby_types::value::Name;
 use sql_grammar::symbol::{Symbol, class_in, symbol_in, text_in};
-use sql_grammar::word::{Class, same};
+use sql_grammar::word::{Class, Word, same};
 use sql_lexer::token::Token;
 use std::alloc::Global;
 
@@ -34,6 +35,41 @@ pub fn is_next(tokens: &[Token], at: usize, class: Class) -> bool
         return false;
     }
     same(class_in(symbol_in(&tokens[at].kind)), class)
+}
+
+/// Whether a token of this class is a name.
+pub fn is_name_class(class: Class) -> bool
+    ensures { result ≡ has class names_begin }
+{
+    match class {
+        Class::Name(Word::Plain) => true,
+        Class::Name(Word::Autocommit) => true,
+        Class::Name(Word::Cs) => true,
+        Class::Name(Word::Current) => true,
+        Class::Name(Word::Exclusive) => true,
+        Class::Name(Word::Index) => true,
+        Class::Name(Word::Isolation) => true,
+        Class::Name(Word::Key) => true,
+        Class::Name(Word::Lock) => true,
+        Class::Name(Word::Mode) => true,
+        Class::Name(Word::Off) => true,
+        Class::Name(Word::Rr) => true,
+        Class::Name(Word::Rs) => true,
+        Class::Name(Word::Share) => true,
+        Class::Name(Word::Ur) => true,
+        Class::Name(Word::Work) => true,
+        _ => false,
+    }
+}
+
+/// Whether the next token is a name.
+pub fn is_name_next(tokens: &[Token], at: usize) -> bool
+    ensures { result ≡ starts names_begin (drop at (seen tokens.now)) }
+{
+    match next_class(tokens, at) {
+        None => false,
+        Some(class) => is_name_class(class),
+    }
 }
 
 /// A token of this class.

@@ -4,6 +4,10 @@
 #![tactic(auto)]
 
 #[cfg(test)]
+mod cuts;
+#[cfg(test)]
 mod expressions;
+#[cfg(test)]
+mod statements;
 #[cfg(test)]
 mod walks;

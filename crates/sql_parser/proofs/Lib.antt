@@ -1,0 +1,4 @@
+pub mod Boxed
+pub mod Endings
+pub mod Forms
+pub mod Verdicts
