@@ -1,0 +1,15 @@
+pub mod Tuples
+pub mod Where
+pub mod Joins
+pub mod Lines
+pub mod Rows
+pub mod Groups
+pub mod Totals
+pub mod Order
+pub mod Query
+pub mod Storing
+pub mod Changes
+pub mod Catalog
+pub mod Meaning
+pub mod Unlike
+pub mod Apart
