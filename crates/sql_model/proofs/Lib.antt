@@ -6,3 +6,4 @@ pub mod Totalling
 pub mod Storings
 pub mod Changing
 pub mod Answering
+pub mod OneBag

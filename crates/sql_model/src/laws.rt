@@ -48,6 +48,11 @@ pub fn conjuncts_are_the_condition()
     ensures { (e : Expr) (row : ℕ → Value) → AllTrue (conjuncts_of e) row ↔ (value_of e row ≡ Gives (Truth true)) }
 {}
 
+/// A statement has one bag of joined tuples: what meets WHERE in the tables, in whatever order.
+pub fn joined_lists_are_one_bag()
+    ensures { (tables : Tables) (from : List ℕ) (cs : List Expr) (found more : List Tuple) → Joins tables from cs found → Joins tables from cs more → IsPermutation found more }
+{}
+
 /// Two rows stand for one exactly where they are one without trailing blanks, NULL being as NULL.
 pub fn same_rows_are_trimmed_alike()
     ensures { (a b : Row) → Decides (same_row a b) (trimmed_row a ≡ trimmed_row b) }
