@@ -4,11 +4,11 @@ use Rattle.std.proofs.lemmas.List.{append-nil, append_assoc}
 use Rattle.std.proofs.lemmas.List.Sorted.{IsPermutation-refl, IsPermutation-trans, IsPermutation-append_left, IsPermutation-append_right, IsPermutation-append_comm}
 use Rattle.std.specs.List.Sorted.{IsPermutation}
 use Rattle.sql_ast.specs.declared.bound.Grouping.{Grouping}
-use Rattle.sql_model.proofs.SameRows.{same_row_itself, same_row_back, are_unlike_snoc}
-use Rattle.sql_model.specs.Groups.{Group, key_of, joined_by, begun_by, with_key, first_groups, grouped, groups_of}
+use Rattle.sql_model.proofs.SameRows.{same_row_itself, same_row_back, same_trimmed, are_unlike_snoc}
+use Rattle.sql_model.specs.Groups.{Group, values_at, key_of, joined_by, begun_by, with_key, first_groups, grouped, groups_of}
 use Rattle.sql_model.specs.Rows.{same_row}
 use Rattle.sql_model.specs.Tuples.{Row}
-use Rattle.sql_model.specs.Unlike.{IsUnlike, AreUnlike, keys_in, rows_in, HasKey, Divides}
+use Rattle.sql_model.specs.Unlike.{IsUnlike, AreUnlike, keys_in, rows_in, HasKey, IsTrimmed, Divides}
 use Rattle.table_model.proofs.TablesLemmas.{each_append}
 use Rattle.table_model.specs.Tables.{Each}
 
@@ -37,6 +37,23 @@ right_keys keys (g ∷ gs) r h = step (same_row (key_of keys r) g.key) refl (rig
     step : (b : Bool) → same_row (key_of keys r) g.key ≡ b → Each (HasKey keys) (with_key gs (key_of keys r) r) → Each (HasKey keys) (cond b (joined_by g r ∷ gs) (g ∷ with_key gs (key_of keys r) r))
     step true e more = (each_append (λ (s : Row). same_row (key_of keys s) g.key ≡ true) g.rows (r ∷ []) h.0 (e, tt), h.1)
     step false e more = (h.0, more)
+
+-- no key has trailing blanks
+trimmed_keys : (gs : List Group) (key r : Row) → IsTrimmed key → Each IsTrimmed (keys_in gs) → Each IsTrimmed (keys_in (with_key gs key r))
+trimmed_keys [] key r is h = (is, tt)
+trimmed_keys (g ∷ gs) key r is h = step (same_row key g.key) (trimmed_keys gs key r is h.1)
+  where
+    step : (b : Bool) → Each IsTrimmed (keys_in (with_key gs key r)) → Each IsTrimmed (keys_in (cond b (joined_by g r ∷ gs) (g ∷ with_key gs key r)))
+    step true more = h
+    step false more = (h.0, more)
+
+grouped_trimmed : (keys : List ℕ) (gs : List Group) (rows : List Row) → Each IsTrimmed (keys_in gs) → Each IsTrimmed (keys_in (grouped keys gs rows))
+grouped_trimmed keys gs [] h = h
+grouped_trimmed keys gs (r ∷ rows) h = grouped_trimmed keys (with_key gs (key_of keys r) r) rows (trimmed_keys gs (key_of keys r) r (same_trimmed (values_at keys r)) h)
+
+first_trimmed : (whole : Bool) → Each IsTrimmed (keys_in (first_groups whole))
+first_trimmed true = (refl, tt)
+first_trimmed false = tt
 
 -- no row is lost
 all_rows : (gs : List Group) (key r : Row) → IsPermutation (rows_in gs ++ r ∷ []) (rows_in (with_key gs key r))
@@ -83,6 +100,7 @@ first_none false = refl
 pub groups_divide : (g : Grouping) (rows : List Row) → Divides g.keys rows (groups_of g rows)
 groups_divide g rows = record {
   unlike = grouped_unlike g.keys (first_groups g.whole) rows (first_unlike g.whole);
+  trimmed = grouped_trimmed g.keys (first_groups g.whole) rows (first_trimmed g.whole);
   right = grouped_right g.keys (first_groups g.whole) rows (first_right g.keys g.whole);
   all = subst (λ (l : List Row). IsPermutation (l ++ rows) (rows_in (groups_of g rows))) (first_none g.whole) (grouped_all g.keys (first_groups g.whole) rows);
 }

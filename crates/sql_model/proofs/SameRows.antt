@@ -128,7 +128,7 @@ trimmed_once (Text t) = ap Text (trimmed_text-same (trimmed_text t) t (text_back
     text_back t = text_cmp_total.antisymm (trimmed_text t) t ∙ ap ordering_reverse (text_cmp-trimmed t)
 
 -- a row and the same row without blanks
-same_trimmed : (r : Row) → trimmed_row (trimmed_row r) ≡ trimmed_row r
+pub same_trimmed : (r : Row) → trimmed_row (trimmed_row r) ≡ trimmed_row r
 same_trimmed [] = refl
 same_trimmed (v ∷ r) = ap (λ (w : Value). w ∷ trimmed_row (trimmed_row r)) (trimmed_once v) ∙ ap (λ (s : Row). trimmed v ∷ s) (same_trimmed r)
 

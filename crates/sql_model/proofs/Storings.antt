@@ -1,7 +1,7 @@
 -- A new row may stand in its table.
-use Rattle.std.proofs.Common.{◌≡◌, ◌≤◌, ℕ, ℤ, Bool, true, false, cond, List, [], ◌∷◌, length, take, map, Option, Some, None, Result, Ok, Err, refl, sym, ap, ◌∙◌, arith}
+use Rattle.std.proofs.Common.{◌≡◌, ◌≤◌, ℕ, suc, ℤ, Bool, true, false, cond, List, [], ◌∷◌, length, take, map, Option, Some, None, Result, Ok, Err, refl, sym, ap, ◌∙◌, arith}
 use Rattle.std.specs.Prelude.{nat_le, min}
-use Rattle.std.proofs.lemmas.Bool.{and_from, false≢true}
+use Rattle.std.proofs.lemmas.Bool.{and_from, and_parts, false≢true}
 use Rattle.std.proofs.lemmas.Bool.Decides.{nat_tests}
 use Rattle.std.proofs.lemmas.List.{length-take, length-map}
 use Rattle.dby_types.specs.declared.definition.ColumnDef.{ColumnDef}
@@ -15,7 +15,11 @@ use Rattle.dby_types.specs.declared.value.Value.TheVariants.{Null, Num, Text}
 use Rattle.dby_types.specs.declared.value.Value.TheVariants.{Bool as Truth}
 use Rattle.expr_model.specs.declared.evaluated.Evaluated.{Evaluated}
 use Rattle.expr_model.specs.declared.evaluated.Evaluated.TheVariants.{Value as Gives, Sql as Refused}
-use Rattle.sql_model.specs.Lines.{value_in, values_in, first_refusal}
+use Rattle.sql_ast.specs.declared.bound.BoundSet.{BoundSet}
+use Rattle.sql_ast.specs.declared.bound.Expr.{Expr}
+use Rattle.sql_model.specs.Changes.{tuple_values, set_values_from}
+use Rattle.sql_model.specs.Inserting.{items_from, in_table_order}
+use Rattle.sql_model.specs.Lines.{values_of, value_in, values_in, first_refusal}
 use Rattle.sql_model.specs.Storing.{taken, kept_null, kept, kept_line, or_else, row_refusal, stored_row, HasNoNull, MayStand}
 use Rattle.sql_model.specs.Tuples.{Row}
 use Rattle.table_model.specs.Fitting.{fits_columns}
@@ -114,3 +118,69 @@ new_row_stands columns line long h =
     let all : LineStands columns (values_in (kept_line columns (values_in line))) =
         line_stands columns (values_in line) (length-map line value_in ∙ long) (later_none (first_refusal line) (first_refusal (kept_line columns (values_in line))) h) in
     record { fits = all.0; nulls = all.1 }
+
+-- a row that stands already is kept as it is
+truth_itself : (ty : Ty) (b : Bool) → is_storable ty (Truth b) ≡ true → stored ty (Truth b) ≡ Ok (Truth b)
+truth_itself Truths b h = refl
+truth_itself Small b h = absurd (cc)
+truth_itself Int b h = absurd (cc)
+truth_itself Big b h = absurd (cc)
+truth_itself (Varchar limit) b h = absurd (cc)
+
+text_itself : (ty : Ty) (t : List ℕ) → is_storable ty (Text t) ≡ true → stored ty (Text t) ≡ Ok (Text t)
+text_itself (Varchar limit) t h = ap (λ b. cond b (Ok (Text t)) (cond (nat_le (length (trimmed_text t)) limit) (Ok (Text (take limit t))) (Err TextTooLong))) h
+text_itself Truths t h = absurd (cc)
+text_itself Small t h = absurd (cc)
+text_itself Int t h = absurd (cc)
+text_itself Big t h = absurd (cc)
+
+kept_itself : (c : ColumnDef) (v : Value) → is_storable c.ty v ≡ true → (c.not_null ≡ true → is_null v ≡ false) → kept c v ≡ Gives v
+kept_itself c Null fits null = step c.not_null refl
+  where
+    step : (b : Bool) → c.not_null ≡ b → kept_null b ≡ Gives Null
+    step true e = absurd (false≢true (sym (null e)))
+    step false e = refl
+kept_itself c (Num n) fits null = ap (λ b. taken (cond b (Ok (Num n)) (cond (is_number_type c.ty) (Err OutOfRange) (Err NotStorable)))) fits
+kept_itself c (Truth b) fits null = ap taken (truth_itself c.ty b fits)
+kept_itself c (Text t) fits null = ap taken (text_itself c.ty t fits)
+
+line_itself : (cs : List ColumnDef) (vs : Row) → fits_columns cs vs ≡ true → HasNoNull cs vs → kept_line cs vs ≡ map Gives vs
+line_itself [] [] h k = refl
+line_itself [] (v ∷ vs) h k = absurd (cc)
+line_itself (c ∷ cs) [] h k = absurd (cc)
+line_itself (c ∷ cs) (v ∷ vs) h k =
+    let parts : (is_storable c.ty v ≡ true) × (fits_columns cs vs ≡ true) = and_parts (is_storable c.ty v) (fits_columns cs vs) h in
+    ap (λ (e : Evaluated). e ∷ kept_line cs vs) (kept_itself c v parts.0 k.0) ∙ ap (λ (l : List Evaluated). Gives v ∷ l) (line_itself cs vs parts.1 k.1)
+
+given_values : (vs : Row) → values_in (map Gives vs) ≡ vs
+given_values [] = refl
+given_values (v ∷ vs) = ap (λ (r : Row). v ∷ r) (given_values vs)
+
+given_quiet : (vs : Row) → first_refusal (map Gives vs) ≡ None
+given_quiet [] = refl
+given_quiet (v ∷ vs) = given_quiet vs
+
+pub standing_row_stays : (columns : List ColumnDef) (r : Row) → MayStand columns r → stored_row columns (map Gives r) ≡ r
+standing_row_stays columns r h =
+    ap (λ (s : Row). values_in (kept_line columns s)) (given_values r) ∙ ap values_in (line_itself columns r h.fits h.nulls) ∙ given_values r
+
+pub standing_row_quiet : (columns : List ColumnDef) (r : Row) → MayStand columns r → row_refusal columns (map Gives r) ≡ None
+standing_row_quiet columns r h =
+    ap (λ w. or_else w (first_refusal (kept_line columns (values_in (map Gives r))))) (given_quiet r)
+    ∙ ap (λ (s : Row). first_refusal (kept_line columns s)) (given_values r) ∙ ap first_refusal (line_itself columns r h.fits h.nulls) ∙ given_quiet r
+
+-- a new row has a value for each column
+pub set_long : (n : ℕ) (sets : List BoundSet) (columns : List ColumnDef) (r : Row) → length (set_values_from n sets columns r) ≡ length columns
+set_long n sets [] r = refl
+set_long n sets (c ∷ cs) r = let more : length (set_values_from (suc n) sets cs r) ≡ length cs = set_long (suc n) sets cs r in omega arith
+
+pub items_long : (n : ℕ) (columns : List ColumnDef) (ps : List ℕ) (es : List Expr) → length (items_from n columns ps es) ≡ length columns
+items_long n [] ps es = refl
+items_long n (c ∷ cs) ps es = let more : length (items_from (suc n) cs ps es) ≡ length cs = items_long (suc n) cs ps es in omega arith
+
+values_long : (es : List Expr) (r : Row) → length (values_of es r) ≡ length es
+values_long [] r = refl
+values_long (e ∷ es) r = let more : length (values_of es r) ≡ length es = values_long es r in omega arith
+
+pub tuple_long : (columns : List ColumnDef) (ps : List ℕ) (es : List Expr) → length (tuple_values (in_table_order columns ps es)) ≡ length columns
+tuple_long columns ps es = values_long (in_table_order columns ps es) [] ∙ items_long 0 columns ps es

@@ -13,3 +13,5 @@ pub mod Catalog
 pub mod Meaning
 pub mod Unlike
 pub mod Apart
+pub mod Inserting
+pub mod Telling

@@ -2,7 +2,7 @@
 use Rattle.std.specs.Prelude.{◌≡◌, ℕ, Bool, true, false, List, [], ◌∷◌, ◌++◌, map}
 use Rattle.std.specs.List.Sorted.{IsPermutation}
 use Rattle.sql_model.specs.Groups.{Group, key_of}
-use Rattle.sql_model.specs.Rows.{same_row, has_same}
+use Rattle.sql_model.specs.Rows.{same_row, trimmed_row, has_same}
 use Rattle.sql_model.specs.Tuples.{Row}
 use Rattle.table_model.specs.Tables.{Each}
 
@@ -33,8 +33,13 @@ rows_in (g ∷ gs) = g.rows ++ rows_in gs
 abbrev pub HasKey : List ℕ → Group → Type 0
 HasKey keys g = Each (λ (r : Row). same_row (key_of keys r) g.key ≡ true) g.rows
 
--- A DIVISION of rows: no two groups have one key, each row is in the group of its key, and none is lost or stands twice
+-- a key without its texts' trailing blanks
+abbrev pub IsTrimmed : Row → Type 0
+IsTrimmed r = trimmed_row r ≡ r
+
+-- A DIVISION of rows: no two groups have one key, no key has trailing blanks, each row is in the group of its key, and none is lost or stands twice
 pub record Divides (keys : List ℕ) (rows : List Row) (gs : List Group) : Type 0 where
   pub unlike : AreUnlike (keys_in gs)
+  pub trimmed : Each IsTrimmed (keys_in gs)
   pub right : Each (HasKey keys) gs
   pub all : IsPermutation rows (rows_in gs)

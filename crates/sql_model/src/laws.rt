@@ -17,8 +17,9 @@ ghost use Rattle.sql_ast.specs.declared.bound.OrderKey.{OrderKey};
 ghost use Rattle.sql_ast.specs.declared.bound.Total.TheVariants.{CountAll, Over};
 ghost use Rattle.sql_ast.specs.declared.expression.Aggregate.TheVariants.{Count, Max, Min, Sum};
 ghost use Rattle.sql_model.specs.Apart.{AreApart};
-ghost use Rattle.sql_model.specs.Changes.{delete_changes, update_changes};
+ghost use Rattle.sql_model.specs.Changes.{delete_changes, set_values, tuple_values, update_changes};
 ghost use Rattle.sql_model.specs.Groups.{groups_of};
+ghost use Rattle.sql_model.specs.Inserting.{in_table_order};
 ghost use Rattle.sql_model.specs.Joins.{Joins};
 ghost use Rattle.sql_model.specs.Lines.{values_in};
 ghost use Rattle.sql_model.specs.Meaning.{Answers};
@@ -34,7 +35,7 @@ ghost use Rattle.sql_model.specs.declared.judged.Judged.TheVariants.{Meets};
 ghost use Rattle.std.specs.Bool.{Decides};
 ghost use Rattle.std.specs.Cmp.{IsTotalOrder};
 ghost use Rattle.std.specs.List.Sorted.{IsPermutation, IsSorted};
-ghost use Rattle.std.specs.Prelude.{◌≡◌, ◌≢◌, ◌↔◌, ◌∷◌, ◌++◌, ◌+ℤ◌, [], List, None, Some, false, length, pos, true, ℕ};
+ghost use Rattle.std.specs.Prelude.{◌≡◌, ◌≢◌, ◌↔◌, ◌∷◌, ◌++◌, ◌+ℤ◌, [], List, None, Some, false, length, map, pos, true, ℕ};
 ghost use Rattle.std.specs.declared.cmp.Ordering.TheVariants.{Greater, Less};
 ghost use Rattle.table_model.specs.Tables.{Tables};
 
@@ -104,6 +105,13 @@ pub fn answers_are_bags()
 /// A new row that nothing refuses may stand in its table: each value fits its column, and none is NULL where that is refused.
 pub fn new_rows_may_stand()
     ensures { (columns : List ColumnDef) (line : List Evaluated) → length line ≡ length columns → row_refusal columns line ≡ None → MayStand columns (stored_row columns line) }
+{}
+
+/// A tuple of INSERT and a row under SET have a value for each column, and a row that may stand is stored as it is, without a refusal.
+pub fn rows_have_all_columns()
+    ensures tuple { (columns : List ColumnDef) (ps : List ℕ) (es : List Expr) → length (tuple_values (in_table_order columns ps es)) ≡ length columns }
+    ensures sets { (columns : List ColumnDef) (sets : List BoundSet) (r : Row) → length (set_values sets columns r) ≡ length columns }
+    ensures same { (columns : List ColumnDef) (r : Row) → MayStand columns r → (stored_row columns (map Gives r) ≡ r) × (row_refusal columns (map Gives r) ≡ None) }
 {}
 
 /// The changes of an UPDATE or a DELETE don't meet: each is of a row as it stood before all of them, and no place is changed twice.
