@@ -1,5 +1,5 @@
 -- The changes of an UPDATE or a DELETE don't meet.
-use Rattle.std.proofs.Common.{◌≡◌, ℕ, ◌+◌, Bool, true, false, cond, List, [], ◌∷◌, ◌++◌, map, Option, Some, None, refl, sym, ap, ◌∙◌, subst}
+use Rattle.std.proofs.Common.{◌≡◌, ℕ, ◌+◌, true, cond, List, [], ◌∷◌, map, Some, refl, sym, ap, ◌∙◌}
 use Rattle.std.specs.Prelude.{◌&&◌}
 use Rattle.std.specs.List.{flat_map}
 use Rattle.std.proofs.Math.Bool.{and-true}
@@ -11,8 +11,7 @@ use Rattle.sql_ast.specs.declared.bound.Expr.{Expr}
 use Rattle.sql_model.specs.Apart.{IsOfRow, once_at, times_changed, AreApart}
 use Rattle.sql_model.specs.Changes.{RowChange, update_change, update_changes, delete_change, delete_changes}
 use Rattle.sql_model.specs.Joins.{Joins, MeetsWhere}
-use Rattle.sql_model.specs.Tuples.{Row, Tuple, IsTuple, times}
-use Rattle.table_model.proofs.TablesLemmas.{each_map}
+use Rattle.sql_model.specs.Tuples.{Tuple, times}
 use Rattle.table_model.specs.Tables.{Tables, Each, is_same_rid}
 
 -- a change of each component, at its place and with its row as what stood

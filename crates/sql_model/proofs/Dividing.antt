@@ -1,11 +1,11 @@
 -- Groups are a division of rows.
-use Rattle.std.proofs.Common.{◌≡◌, ℕ, Bool, true, false, cond, List, [], ◌∷◌, ◌++◌, refl, sym, ap, ◌∙◌, subst}
+use Rattle.std.proofs.Common.{◌≡◌, ℕ, Bool, true, false, cond, List, [], ◌∷◌, ◌++◌, refl, sym, ◌∙◌, subst}
 use Rattle.std.proofs.lemmas.List.{append-nil, append_assoc}
 use Rattle.std.proofs.lemmas.List.Sorted.{IsPermutation-refl, IsPermutation-trans, IsPermutation-append_left, IsPermutation-append_right, IsPermutation-append_comm}
 use Rattle.std.specs.List.Sorted.{IsPermutation}
 use Rattle.sql_ast.specs.declared.bound.Grouping.{Grouping}
-use Rattle.sql_model.proofs.SameRows.{same_row_itself, same_row_back, same_trimmed, are_unlike_snoc}
-use Rattle.sql_model.specs.Groups.{Group, values_at, key_of, joined_by, begun_by, with_key, first_groups, grouped, groups_of}
+use Rattle.sql_model.proofs.SameRows.{same_row_itself, same_row_back, same_trimmed}
+use Rattle.sql_model.specs.Groups.{Group, values_at, key_of, joined_by, with_key, first_groups, grouped, groups_of}
 use Rattle.sql_model.specs.Rows.{same_row}
 use Rattle.sql_model.specs.Tuples.{Row}
 use Rattle.sql_model.specs.Unlike.{IsUnlike, AreUnlike, keys_in, rows_in, HasKey, IsTrimmed, Divides}
@@ -80,10 +80,10 @@ grouped_all : (keys : List ℕ) (gs : List Group) (rows : List Row) → IsPermut
 grouped_all keys gs [] = subst (λ (l : List Row). IsPermutation l (rows_in gs)) (sym (append-nil (rows_in gs))) (IsPermutation-refl (rows_in gs))
 grouped_all keys gs (r ∷ rows) =
     let now : IsPermutation ((rows_in gs ++ r ∷ []) ++ rows) (rows_in (with_key gs (key_of keys r) r) ++ rows) =
-        IsPermutation-append_left rows (rows_in gs ++ r ∷ []) (rows_in (with_key gs (key_of keys r) r)) (all_rows gs (key_of keys r) r) in
+    IsPermutation-append_left rows (rows_in gs ++ r ∷ []) (rows_in (with_key gs (key_of keys r) r)) (all_rows gs (key_of keys r) r) in
     IsPermutation-trans (rows_in gs ++ r ∷ rows) (rows_in (with_key gs (key_of keys r) r) ++ rows) (rows_in (grouped keys (with_key gs (key_of keys r) r) rows))
-        (subst (λ (l : List Row). IsPermutation l (rows_in (with_key gs (key_of keys r) r) ++ rows)) (append_assoc (rows_in gs) (r ∷ []) rows) now)
-        (grouped_all keys (with_key gs (key_of keys r) r) rows)
+    (subst (λ (l : List Row). IsPermutation l (rows_in (with_key gs (key_of keys r) r) ++ rows)) (append_assoc (rows_in gs) (r ∷ []) rows) now)
+    (grouped_all keys (with_key gs (key_of keys r) r) rows)
 
 first_unlike : (whole : Bool) → AreUnlike (keys_in (first_groups whole))
 first_unlike true = (tt, tt)

@@ -1,5 +1,5 @@
 -- WHERE keeps exactly the rows for which each conjunct is true.
-use Rattle.std.proofs.Common.{◌≡◌, ℕ, Bool, true, false, cond, List, [], ◌∷◌, ◌++◌, refl, sym, ap, ◌∙◌}
+use Rattle.std.proofs.Common.{◌≡◌, ℕ, Bool, true, false, cond, List, [], ◌∷◌, ◌++◌, refl, ap, ◌∙◌}
 use Rattle.std.specs.Prelude.{not}
 use Rattle.std.specs.List.{filter}
 use Rattle.dby_types.specs.declared.value.Ty.{Ty}
@@ -13,9 +13,9 @@ use Rattle.expr_model.specs.declared.evaluated.Evaluated.TheVariants.{Value as G
 use Rattle.sql_ast.specs.declared.bound.Expr.{Expr}
 use Rattle.sql_ast.specs.declared.bound.Node.{Node, Column, Literal, Arithmetic', Negated', Compare', IsNull', Between', In', And', Or', Not'}
 use Rattle.sql_model.specs.declared.judged.Judged.{Judged}
-use Rattle.sql_model.specs.declared.judged.Judged.TheVariants.{Meets, Fails, Refuses}
+use Rattle.sql_model.specs.declared.judged.Judged.TheVariants.{Meets}
 use Rattle.sql_model.specs.Tuples.{Row}
-use Rattle.sql_model.specs.Where.{node_conjuncts, conjuncts_of, is_plain, is_other, in_order, then_judged, judge, judged, AllTrue}
+use Rattle.sql_model.specs.Where.{node_conjuncts, is_plain, is_other, in_order, then_judged, judge, judged, AllTrue}
 
 abbrev IsTrueOf : Expr → (ℕ → Value) → Type 0
 IsTrueOf c row = value_of c row ≡ Gives (Truth true)

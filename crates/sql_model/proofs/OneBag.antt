@@ -1,6 +1,5 @@
 -- Two joined lists of one statement over the same tables are one bag.
-use Rattle.std.proofs.Common.{◌≡◌, ◌≢◌, ℕ, ◌+◌, Bool, true, false, cond, List, [], ◌∷◌, ◌++◌, Some, refl, sym, ap, ◌∙◌, subst, arith}
-use Rattle.std.specs.Prelude.{◌&&◌}
+use Rattle.std.proofs.Common.{◌≡◌, ◌≢◌, ℕ, ◌+◌, Bool, true, false, cond, List, [], ◌∷◌, Some, refl, sym, ap, ◌∙◌, subst, arith}
 use Rattle.std.proofs.lemmas.Bool.{eqb-true, eq-eqb, and_from, and_parts}
 use Rattle.std.proofs.lemmas.List.Sorted.{IsPermutation-refl, IsPermutation-sym, IsPermutation-trans, IsPermutation-cons, IsPermutation-middle}
 use Rattle.std.specs.List.Sorted.{IsPermutation}
@@ -74,7 +73,7 @@ module _ (tables : Tables) (from : List ℕ) where
       step true e ne' more = subst (λ (v : Tuple). IsPermutation (u ∷ us) (v ∷ us)) (sym (tuple_is tables from t u a h.0 e)) (IsPermutation-refl (u ∷ us))
       step false e ne' more =
           IsPermutation-trans (u ∷ us) (u ∷ t ∷ without t us) (t ∷ u ∷ without t us)
-              (IsPermutation-cons u us (t ∷ without t us) (more (λ k. ne' (omega arith)))) (IsPermutation-middle (u ∷ []) t (without t us))
+          (IsPermutation-cons u us (t ∷ without t us) (more (λ k. ne' (omega arith)))) (IsPermutation-middle (u ∷ []) t (without t us))
 
   times_out : (v t : Tuple) (us : List Tuple) → There t → Each There us → times t us ≢ 0 → times v us ≡ cond (same_places v t) 1 0 + times v (without t us)
   times_out v t [] a h ne = absurd (ne refl)
@@ -97,9 +96,9 @@ module _ (tables : Tables) (from : List ℕ) where
       let one : times x ys ≡ 1 + times x xs = sym (h x a.0) ∙ ap (λ s. cond s 1 0 + times x xs) (places_itself x) in
       let some : times x ys ≢ 0 = λ k. absurd (omega arith) in
       let rest : IsPermutation xs (without x ys) = same_bag xs (without x ys) a.1 (without_there x ys b) (λ t there.
-          let here : cond (same_places t x) 1 0 + times t xs ≡ times t ys = h t there in
-          let out : times t ys ≡ cond (same_places t x) 1 0 + times t (without x ys) = times_out t x ys a.0 b some in
-          omega arith) in
+      let here : cond (same_places t x) 1 0 + times t xs ≡ times t ys = h t there in
+      let out : times t ys ≡ cond (same_places t x) 1 0 + times t (without x ys) = times_out t x ys a.0 b some in
+      omega arith) in
       IsPermutation-trans (x ∷ xs) (x ∷ without x ys) ys (IsPermutation-cons x xs (without x ys) rest) (IsPermutation-sym ys (x ∷ without x ys) (taken_out x ys a.0 b some))
 
   -- a tuple that doesn't meet WHERE stands nowhere

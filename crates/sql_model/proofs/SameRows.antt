@@ -1,5 +1,5 @@
 -- Rows that stand for one.
-use Rattle.std.proofs.Common.{◌≡◌, ◌≢◌, ℕ, Bool, true, false, cond, List, [], ◌∷◌, ◌++◌, map, refl, sym, ap, ◌∙◌, subst, inl, inr}
+use Rattle.std.proofs.Common.{◌≡◌, ℕ, Bool, true, false, cond, List, [], ◌∷◌, ◌++◌, map, refl, sym, ap, ◌∙◌}
 use Rattle.std.specs.Prelude.{◌&&◌, ◌||◌}
 use Rattle.std.specs.Bool.{Decides, one_answer}
 use Rattle.std.specs.List.{fold}
@@ -145,10 +145,11 @@ has_untrimmed r seen h = same_of seen ∙ h
 
 each_has : (seen rows : List Row) → Each (λ (r : Row). has_same r (fold with_row seen (map trimmed_row rows)) ≡ true) rows
 each_has seen [] = tt
-each_has seen (r ∷ rows) =
-    (has_untrimmed r (fold with_row (with_row seen (trimmed_row r)) (map trimmed_row rows))
-        (has_fold (trimmed_row r) (with_row seen (trimmed_row r)) (map trimmed_row rows) (has_now (trimmed_row r) seen)),
-     each_has (with_row seen (trimmed_row r)) rows)
+each_has seen (r ∷ rows) = (
+  has_untrimmed r (fold with_row (with_row seen (trimmed_row r)) (map trimmed_row rows))
+      (has_fold (trimmed_row r) (with_row seen (trimmed_row r)) (map trimmed_row rows) (has_now (trimmed_row r) seen)),
+  each_has (with_row seen (trimmed_row r)) rows,
+)
 
 pub distinct_has_one : (rows : List Row) → HasOneOfEach rows (distinct_rows rows)
 distinct_has_one rows = record { unlike = unlike_fold [] (map trimmed_row rows) tt; each = each_has [] rows }

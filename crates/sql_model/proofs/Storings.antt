@@ -116,7 +116,7 @@ later_none (Some why) b h = absurd (cc)
 pub new_row_stands : (columns : List ColumnDef) (line : List Evaluated) → length line ≡ length columns → row_refusal columns line ≡ None → MayStand columns (stored_row columns line)
 new_row_stands columns line long h =
     let all : LineStands columns (values_in (kept_line columns (values_in line))) =
-        line_stands columns (values_in line) (length-map line value_in ∙ long) (later_none (first_refusal line) (first_refusal (kept_line columns (values_in line))) h) in
+    line_stands columns (values_in line) (length-map line value_in ∙ long) (later_none (first_refusal line) (first_refusal (kept_line columns (values_in line))) h) in
     record { fits = all.0; nulls = all.1 }
 
 -- a row that stands already is kept as it is

@@ -1,5 +1,5 @@
 -- Totals: of no row, and of all rows.
-use Rattle.std.proofs.Common.{◌≡◌, ◌≢◌, ℤ, pos, ◌+ℤ◌, Bool, true, false, List, [], ◌∷◌, ◌++◌, length, map, Some, refl, sym, ap, ◌∙◌, arith}
+use Rattle.std.proofs.Common.{◌≡◌, ◌≢◌, ℤ, pos, ◌+ℤ◌, true, false, List, [], ◌∷◌, ◌++◌, length, map, Some, refl, ap, ◌∙◌, arith}
 use Rattle.std.proofs.lemmas.Int.{ints}
 use Rattle.dby_types.specs.declared.value.Value.{Value}
 use Rattle.expr_model.proofs.TotalLemmas.{sum_of-known}
@@ -7,7 +7,7 @@ use Rattle.expr_model.specs.Arithmetic.{in_range}
 use Rattle.expr_model.specs.Totals.{known, number_in, total_from}
 use Rattle.sql_ast.specs.declared.bound.Expr.{Expr}
 use Rattle.sql_ast.specs.declared.bound.Grouping.{Grouping}
-use Rattle.sql_ast.specs.declared.bound.Total.TheVariants.{CountAll, Over}
+use Rattle.sql_ast.specs.declared.bound.Total.TheVariants.{Over}
 use Rattle.sql_ast.specs.declared.expression.Aggregate.TheVariants.{Sum}
 use Rattle.sql_model.specs.Groups.{first_groups}
 use Rattle.sql_model.specs.Lines.{values_in}

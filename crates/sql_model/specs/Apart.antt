@@ -1,5 +1,5 @@
 -- Words of the laws: changes that don't meet.
-use Rattle.std.specs.Prelude.{◌≡◌, ℕ, ◌+◌, Bool, true, false, if◌then◌else◌, List, [], ◌∷◌, Option, Some, None}
+use Rattle.std.specs.Prelude.{◌≡◌, ℕ, ◌+◌, if◌then◌else◌, List, [], ◌∷◌, Option, Some, None}
 use Rattle.dby_types.specs.declared.number.RowId.{RowId}
 use Rattle.sql_model.specs.Changes.{RowChange}
 use Rattle.table_model.specs.Tables.{Tables, Each, is_same_rid}

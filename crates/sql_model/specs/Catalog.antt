@@ -1,5 +1,5 @@
 -- The catalog rows of a new table.
-use Rattle.std.specs.Prelude.{ℕ, suc, pos, List, [], ◌∷◌, Option, Some, None}
+use Rattle.std.specs.Prelude.{ℕ, suc, pos, List, [], ◌∷◌, Some, None}
 use Rattle.dby_types.specs.declared.definition.ColumnDef.{ColumnDef}
 use Rattle.dby_types.specs.declared.definition.Dictionary.{Dictionary}
 use Rattle.dby_types.specs.declared.definition.TableDef.{TableDef}

@@ -1,5 +1,5 @@
 -- Changes of rows.
-use Rattle.std.specs.Prelude.{◌≡◌, ℕ, suc, ◌==◌, if◌then◌else◌, List, [], ◌∷◌, ◌++◌, map, Option, Some, None}
+use Rattle.std.specs.Prelude.{ℕ, suc, ◌==◌, if◌then◌else◌, List, [], ◌∷◌, map, Option, Some, None}
 use Rattle.std.specs.List.{filter_map, flat_map}
 use Rattle.dby_types.specs.declared.answer.Component.{Component}
 use Rattle.dby_types.specs.declared.definition.ColumnDef.{ColumnDef}

@@ -1,6 +1,5 @@
 -- Groups, in the order in which their first rows come.
-use Rattle.std.specs.Prelude.{ℕ, Bool, true, false, if◌then◌else◌, List, [], ◌∷◌, ◌++◌, map}
-use Rattle.std.specs.List.{fold}
+use Rattle.std.specs.Prelude.{ℕ, Bool, true, false, if◌then◌else◌, List, [], ◌∷◌, ◌++◌}
 use Rattle.sql_ast.specs.declared.bound.Grouping.{Grouping}
 use Rattle.sql_model.specs.Rows.{value_at, same_row, trimmed_row}
 use Rattle.sql_model.specs.Tuples.{Row}

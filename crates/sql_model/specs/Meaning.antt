@@ -4,7 +4,6 @@ use Rattle.dby_types.specs.declared.definition.Dictionary.{Dictionary}
 use Rattle.dby_types.specs.declared.state.SqlState.{SqlState}
 use Rattle.dby_types.specs.declared.state.SqlState.TheVariants.{NotBuilt}
 use Rattle.sql_ast.specs.declared.bound.BoundSelect.{BoundSelect}
-use Rattle.sql_ast.specs.declared.bound.BoundSet.{BoundSet}
 use Rattle.sql_ast.specs.declared.bound.BoundStatement.{BoundStatement}
 use Rattle.sql_ast.specs.declared.bound.BoundStatement.TheVariants.{CreateTable, CreateIndex, Drop, Insert, Update, Delete, Select, LockTable, SetIsolation, Autocommit, Commit, Rollback}
 use Rattle.sql_ast.specs.declared.bound.Expr.{Expr}

@@ -1,6 +1,6 @@
 -- What a query makes of its joined list: a function of the joined rows alone.
-use Rattle.std.specs.Prelude.{◌≡◌, List, [], ◌∷◌, ◌++◌, map, Option, Some, None, Contains}
-use Rattle.std.specs.List.{flat_map, filter_map}
+use Rattle.std.specs.Prelude.{◌≡◌, List, [], ◌∷◌, ◌++◌, map, Option, Some, None}
+use Rattle.std.specs.List.{flat_map}
 use Rattle.std.specs.List.Sorted.{IsSorted, IsPermutation}
 use Rattle.dby_types.specs.declared.state.SqlState.{SqlState}
 use Rattle.expr_model.specs.declared.evaluated.Evaluated.{Evaluated}
@@ -9,7 +9,7 @@ use Rattle.sql_ast.specs.declared.bound.Expr.{Expr}
 use Rattle.sql_ast.specs.declared.bound.Grouping.{Grouping}
 use Rattle.sql_ast.specs.declared.bound.Out.{Out}
 use Rattle.sql_model.specs.Groups.{Group, groups_of}
-use Rattle.sql_model.specs.Lines.{values_of, values_in, first_refusal, refusals_of, unless}
+use Rattle.sql_model.specs.Lines.{values_of, values_in, refusals_of, unless}
 use Rattle.sql_model.specs.Order.{order_cmp}
 use Rattle.sql_model.specs.Rows.{distinct_if}
 use Rattle.sql_model.specs.Totals.{totals_of, operand_lines, total_refusals}

@@ -1,5 +1,5 @@
 -- The totals of a group.
-use Rattle.std.specs.Prelude.{pos, List, [], ◌∷◌, ◌++◌, map, length}
+use Rattle.std.specs.Prelude.{pos, List, [], ◌∷◌, length}
 use Rattle.std.specs.List.{filter_map}
 use Rattle.dby_types.specs.declared.state.SqlState.{SqlState}
 use Rattle.dby_types.specs.declared.value.Value.TheVariants.{Num}

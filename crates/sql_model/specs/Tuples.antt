@@ -1,7 +1,6 @@
 -- Tuples of FROM: a row of each table.
 use Rattle.std.specs.Prelude.{◌≡◌, ℕ, ◌+◌, Bool, true, false, ◌&&◌, if◌then◌else◌, List, [], ◌∷◌, ◌++◌, Some}
 use Rattle.dby_types.specs.declared.answer.Component.{Component}
-use Rattle.dby_types.specs.declared.number.RowId.{RowId}
 use Rattle.dby_types.specs.declared.value.Value.{Value}
 use Rattle.table_model.specs.Tables.{Tables, is_same_rid}
 

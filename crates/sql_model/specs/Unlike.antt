@@ -1,5 +1,5 @@
 -- Words of the laws: rows that are unlike each other, and groups that are a division of rows.
-use Rattle.std.specs.Prelude.{◌≡◌, ℕ, Bool, true, false, List, [], ◌∷◌, ◌++◌, map}
+use Rattle.std.specs.Prelude.{◌≡◌, ℕ, true, false, List, [], ◌∷◌, ◌++◌}
 use Rattle.std.specs.List.Sorted.{IsPermutation}
 use Rattle.sql_model.specs.Groups.{Group, key_of}
 use Rattle.sql_model.specs.Rows.{same_row, trimmed_row, has_same}
