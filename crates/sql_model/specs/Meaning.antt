@@ -1,6 +1,8 @@
 -- THE MEANING of a bound statement over tables: the refusals that it may give, and where there is none its answer or its changes.
 use Rattle.std.specs.Prelude.{◌≡◌, ◌⊎◌, ℕ, List, [], ◌∷◌, map, Contains}
 use Rattle.dby_types.specs.declared.definition.Dictionary.{Dictionary}
+use Rattle.dby_types.specs.declared.number.Level.{Level}
+use Rattle.dby_types.specs.declared.number.Level.TheVariants.{Ur, Cs, Rs, Rr}
 use Rattle.dby_types.specs.declared.state.SqlState.{SqlState}
 use Rattle.dby_types.specs.declared.state.SqlState.TheVariants.{NotBuilt}
 use Rattle.sql_ast.specs.declared.bound.BoundSelect.{BoundSelect}
@@ -33,7 +35,14 @@ no_refusals found = []
 abbrev pub RefusesOver : Tables → List ℕ → List Expr → (List Tuple → List SqlState) → SqlState → Type 0
 RefusesOver tables from cs refusals why = WhereRefuses tables from cs why ⊎ LaterRefuses tables from cs refusals why
 
--- THE REFUSALS of a bound statement: all that some tuple, row or total gives
+-- two levels aren't built yet
+abbrev pub LevelRefuses : Level → SqlState → Type 0
+LevelRefuses Ur why = why ≡ NotBuilt
+LevelRefuses Cs why = ⊥
+LevelRefuses Rs why = why ≡ NotBuilt
+LevelRefuses Rr why = ⊥
+
+-- THE REFUSALS of a bound statement: all that some tuple, row or total gives. What isn't built yet has one refusal alone
 abbrev pub Refuses : BoundStatement → Dictionary → Tables → SqlState → Type 0
 Refuses (CreateTable name columns []) d tables why = ⊥
 Refuses (CreateTable name columns (k ∷ ks)) d tables why = why ≡ NotBuilt
@@ -44,7 +53,7 @@ Refuses (Update table sets cs) d tables why = RefusesOver tables (table ∷ []) 
 Refuses (Delete table cs) d tables why = RefusesOver tables (table ∷ []) cs no_refusals why
 Refuses (Select q) d tables why = RefusesOver tables q.value.tables q.value.conjuncts (query_refusals q.value) why
 Refuses (LockTable table mode) d tables why = why ≡ NotBuilt
-Refuses (SetIsolation level) d tables why = ⊥
+Refuses (SetIsolation level) d tables why = LevelRefuses level why
 Refuses (Autocommit on) d tables why = ⊥
 Refuses Commit d tables why = ⊥
 Refuses Rollback d tables why = ⊥

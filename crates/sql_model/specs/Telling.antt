@@ -28,6 +28,7 @@ pub record Counts (b : BoundStatement) (d : Dictionary) (tables : Tables) (answe
   pub makes : Makes b d tables changes
   pub told : answer ≡ Changed (length changes)
 
+-- a statement that shows nothing
 pub record IsDone (b : BoundStatement) (d : Dictionary) (tables : Tables) (answer : Answer) : Type 0 where
   pub changes : List RowChange
   pub makes : Makes b d tables changes
@@ -43,7 +44,7 @@ IsTold (Update table sets cs) d tables answer = Counts (Update table sets cs) d 
 IsTold (Delete table cs) d tables answer = Counts (Delete table cs) d tables answer
 IsTold (Select q) d tables answer = ShowsRows q.value tables answer
 IsTold (LockTable table mode) d tables answer = ⊥
-IsTold (SetIsolation level) d tables answer = answer ≡ Done
+IsTold (SetIsolation level) d tables answer = IsDone (SetIsolation level) d tables answer
 IsTold (Autocommit on) d tables answer = answer ≡ Done
 IsTold Commit d tables answer = answer ≡ Committed
 IsTold Rollback d tables answer = answer ≡ RolledBack
