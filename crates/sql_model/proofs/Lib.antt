@@ -7,3 +7,4 @@ pub mod Storings
 pub mod Changing
 pub mod Answering
 pub mod OneBag
+pub mod Swapping

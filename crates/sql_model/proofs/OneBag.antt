@@ -14,14 +14,14 @@ use Rattle.sql_model.specs.declared.judged.Judged.TheVariants.{Meets, Fails, Ref
 use Rattle.table_model.proofs.TablesLemmas.{each_map}
 use Rattle.table_model.specs.Tables.{Tables, Each, is_same_rid}
 
-rid_is : (r s : RowId) → is_same_rid r s ≡ true → r ≡ s
+pub rid_is : (r s : RowId) → is_same_rid r s ≡ true → r ≡ s
 rid_is r s h =
     let parts : (_ ≡ true) × (_ ≡ true) = and_parts _ _ h in
     let page : r.page ≡ s.page = eqb-true r.page s.page parts.0 in
     let slot : r.slot ≡ s.slot = eqb-true r.slot s.slot parts.1 in
     grind arith
 
-rid_itself : (r : RowId) → is_same_rid r r ≡ true
+pub rid_itself : (r : RowId) → is_same_rid r r ≡ true
 rid_itself r = and_from _ _ (eq-eqb r.page r.page refl) (eq-eqb r.slot r.slot refl)
 
 pub places_itself : (t : Tuple) → same_places t t ≡ true

@@ -1,6 +1,7 @@
 //! Laws of the meaning: what holds of every statement and all tables. Each call is a proof and does nothing.
 
 ghost use Rattle.dby_types.specs.declared.definition.ColumnDef.{ColumnDef};
+ghost use Rattle.dby_types.specs.declared.number.RowId.{RowId};
 ghost use Rattle.dby_types.specs.declared.value.Value.{Value};
 ghost use Rattle.dby_types.specs.declared.value.Value.TheVariants.{Null, Num};
 ghost use Rattle.dby_types.specs.declared.value.Value.TheVariants.{Bool as Truth};
@@ -16,8 +17,8 @@ ghost use Rattle.sql_ast.specs.declared.bound.Grouping.{Grouping};
 ghost use Rattle.sql_ast.specs.declared.bound.OrderKey.{OrderKey};
 ghost use Rattle.sql_ast.specs.declared.bound.Total.TheVariants.{CountAll, Over};
 ghost use Rattle.sql_ast.specs.declared.expression.Aggregate.TheVariants.{Count, Max, Min, Sum};
-ghost use Rattle.sql_model.specs.Apart.{AreApart};
-ghost use Rattle.sql_model.specs.Changes.{delete_changes, set_values, tuple_values, update_changes};
+ghost use Rattle.sql_model.specs.Apart.{AreApart, laid};
+ghost use Rattle.sql_model.specs.Changes.{RowChange, delete_changes, set_values, tuple_values, update_changes};
 ghost use Rattle.sql_model.specs.Groups.{groups_of};
 ghost use Rattle.sql_model.specs.Inserting.{in_table_order};
 ghost use Rattle.sql_model.specs.Joins.{Joins};
@@ -37,7 +38,7 @@ ghost use Rattle.std.specs.Cmp.{IsTotalOrder};
 ghost use Rattle.std.specs.List.Sorted.{IsPermutation, IsSorted};
 ghost use Rattle.std.specs.Prelude.{◌≡◌, ◌≢◌, ◌↔◌, ◌∷◌, ◌++◌, ◌+ℤ◌, [], List, None, Some, false, length, map, pos, true, ℕ};
 ghost use Rattle.std.specs.declared.cmp.Ordering.TheVariants.{Greater, Less};
-ghost use Rattle.table_model.specs.Tables.{Tables};
+ghost use Rattle.table_model.specs.Tables.{Tables, is_same_rid};
 
 /// WHERE keeps exactly the rows for which each conjunct is true: one that is unknown keeps none.
 pub fn where_keeps_the_true()
@@ -119,4 +120,10 @@ pub fn changes_do_not_meet()
     ensures updates { (tables : Tables) (n : ℕ) (columns : List ColumnDef) (sets : List BoundSet) (cs : List Expr) (found : List Tuple)
         → Joins tables (n ∷ []) cs found → AreApart tables (update_changes n columns sets found) }
     ensures deletes { (tables : Tables) (n : ℕ) (cs : List Expr) (found : List Tuple) → Joins tables (n ∷ []) cs found → AreApart tables (delete_changes n found) }
+{}
+
+/// Two changes at two places may be made in either order.
+pub fn changes_may_be_swapped()
+    ensures { (c d : RowChange) (more : List RowChange) (tables : Tables) (r s : RowId) → c.rid ≡ Some r → d.rid ≡ Some s → is_same_rid r s ≡ false
+        → (t : ℕ) (x : RowId) → laid (c ∷ d ∷ more) tables t x ≡ laid (d ∷ c ∷ more) tables t x }
 {}
