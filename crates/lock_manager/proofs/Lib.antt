@@ -1,6 +1,10 @@
 pub mod NameLemmas
 pub mod PlacesLemmas
 pub mod AskedLemmas
+pub mod StandingLemmas
+pub mod SkipLemmas
+pub mod AheadLemmas
+pub mod SearchLemmas
 pub mod WithoutLemmas
 pub mod ListedLemmas
 pub mod HoldingsLemmas

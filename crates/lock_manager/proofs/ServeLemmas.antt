@@ -1,7 +1,8 @@
 -- Serving a line, request by request.
-use Rattle.std.proofs.Common.{◌≡◌, ℕ, ◌+◌, ◌<◌, ◌≤◌, Bool, true, false, refl, sym, ◌∙◌, ap, List, [], ◌∷◌, ◌++◌, length, take, drop, get_or, subst, inl, inr, arith, append_assoc, append-nil, length-append, Option, Some, None, suc}
+use Rattle.std.proofs.Common.{◌≡◌, ℕ, zero, ◌+◌, ◌-◌, ◌<◌, ◌≤◌, Bool, true, false, refl, sym, ◌∙◌, ap, List, [], ◌∷◌, ◌++◌, length, take, drop, get_or, subst, inl, inr, arith, append_assoc, append-nil, length-append, Option, Some, None, suc}
 use Rattle.std.specs.Prelude.{◌&&◌, ◌||◌, not}
-use Rattle.std.specs.List.{list_any, remove}
+use Rattle.std.specs.List.{list_any, remove, slice_get}
+use Rattle.std.proofs.lemmas.Option.{slice_get_cases}
 use Rattle.std.specs.Option.{MatchOption, is_some}
 use Rattle.std.proofs.Math.Seq.{take-append_seam, get_or-append_seam}
 use Rattle.std.proofs.lemmas.List.Folds.{list_any-append}
@@ -15,7 +16,7 @@ use Rattle.lock_modes.specs.Modes.{hinders}
 use Rattle.lock_modes.specs.Waits.{blocks, asks_before, opposes, IsFree, IsBlocked}
 use Rattle.lock_modes.specs.Serving.{Serves, granted_all}
 use Rattle.lock_modes.proofs.NamesLemmas.{txn_eq, txn_refl, txn_equiv}
-use Rattle.lock_manager.specs.Freed.{StillBlocked}
+use Rattle.lock_manager.specs.Freed.{StillBlocked, Skips}
 use Rattle.lock_manager.proofs.FreedLemmas.{still_granted}
 use Rattle.lock_manager.specs.Owners.{Owners, grants_in, left_in, victim_in, waits_in, left_sum, Changes}
 use Rattle.lock_manager.specs.Serve.{is_among, Waiters, Wakes, Served, Serving}
@@ -291,3 +292,30 @@ blocked_by g b r (Some h) f s = λ free. both_ways _ (free h) f
 pub free_of : (g : Grants) (b : List Request) (r : Request) (o : Option TxnNo) → MatchOption o (IsFree g b r) (λ h. blocks g b r h ≡ true) → is_some o ≡ false → IsFree g b r
 free_of g b r None f s = f
 free_of g b r (Some h) f s = absurd (both_ways _ s refl)
+
+-- a stretch of requests for names that don't pass stays
+skip_by : (t : LockName → Bool) (old new : Owners) (before line line' given given' : List Request) → StillBlocked t (grants_in old) before line → (d i : ℕ)
+    → Serving t old new before line line' i given given' → i + d ≤ length line' → ((k : ℕ) → i ≤ k → k < i + d → (q : Request) → slice_get line' k ≡ Some q → t q.name ≡ false)
+    → Serving t old new before line line' (i + d) given given'
+skip_by t old new before line line' given given' still zero i s within none =
+    let same : i ≡ i + 0 = omega arith in subst (λ (k : ℕ). Serving t old new before line line' k given given') same s
+skip_by t old new before line line' given given' still (suc d) i s within none = elim (slice_get_cases line' i).1 [
+  | inl a ↦
+      let here : i < length line' = a.1 in
+      let other : t a.0.name ≡ false = none i (omega arith) (omega arith) a.0 a.2 in
+      let blocked = serving_blocked t old new before line line' given given' i a.0 s here (sym a.3) still other in
+      let next = serving_stays t old new before line line' given given' i a.0 s here (sym a.3) blocked in
+      let more = skip_by t old new before line line' given given' still d (i + 1) next (omega (arith, within)) (λ k low high q there. none k (omega (arith, low)) (omega (arith, high)) q there) in
+      let same : (i + 1) + d ≡ i + suc d = omega arith in
+      subst (λ (k : ℕ). Serving t old new before line line' k given given') same more
+  | inr b ↦ absurd (let end = b.0 in omega (arith, end, within))
+]
+
+pub serving_skips : (t : LockName → Bool) (old new : Owners) (before line line' given given' : List Request) (i j : ℕ)
+    → StillBlocked t (grants_in old) before line → Serving t old new before line line' i given given' → Skips t line' i j → Serving t old new before line line' j given given'
+serving_skips t old new before line line' given given' i j still s skips =
+    let from = skips.from in
+    let within = skips.within in
+    let same : i + (j - i) ≡ j = omega (arith, from) in
+    subst (λ (k : ℕ). Serving t old new before line line' k given given') same
+    (skip_by t old new before line line' given given' still (j - i) i s (omega (arith, same, within)) (λ k low high q there. skips.none k low (omega (arith, high, same)) q there))

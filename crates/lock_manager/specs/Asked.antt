@@ -1,11 +1,12 @@
 -- The requests of a line, listed by name: a name's list stands in one map, each of its places an entry.
-use Rattle.std.specs.Prelude.{◌≡◌, ◌≤◌, ◌<◌, ℕ, Bool, false, ◌||◌, suc, List, [], ◌∷◌, Option}
+use Rattle.std.specs.Prelude.{◌≡◌, ◌≤◌, ◌<◌, ℕ, Bool, true, false, ◌&&◌, ◌||◌, not, suc, List, [], ◌∷◌, Option, Some, None, length, take}
 use Rattle.std.specs.HashMap.{HashMap, get}
 use Rattle.std.specs.List.{filter, list_any, slice_get}
 use Rattle.lock_modes.specs.declared.entry.Request.{Request}
 use Rattle.lock_modes.specs.declared.modes.Modes.{Modes}
 use Rattle.lock_modes.specs.declared.name.LockName.{LockName}
-use Rattle.lock_modes.specs.Names.{same_name}
+use Rattle.dby_types.specs.declared.number.TxnNo.{TxnNo}
+use Rattle.lock_modes.specs.Names.{same_name, same_txn}
 use Rattle.lock_manager.specs.declared.places.Place.{Place}
 use Rattle.lock_manager.specs.Places.{same_place, place}
 
@@ -42,3 +43,23 @@ pub record Closing {S : Type 0} (old new : HashMap Place Request S) (name : Lock
   pub before : (i : ℕ) → i < first → asked_at new name i ≡ asked_at old name i
   pub moved : (i : ℕ) → first ≤ i → i < k → asked_at new name i ≡ asked_at old name (suc i)
   pub ahead : (i : ℕ) → k ≤ i → asked_at new name i ≡ asked_at old name i
+
+-- there is a request, and it is a transaction's
+abbrev pub is_of : TxnNo → Option Request → Bool
+is_of t None = false
+is_of t (Some r) = same_txn r.txn t
+
+-- no transaction has two requests in a line
+abbrev pub is_apart : List Request → Bool
+is_apart [] = true
+is_apart (r ∷ rs) = not (list_any (λ q. same_txn q.txn r.txn) rs) && is_apart rs
+
+-- how many requests for a name stand before a place
+abbrev pub asked_before : LockName → List Request → ℕ → ℕ
+asked_before n rs i = length (asks_for n (take i rs))
+
+-- at a place of the line stands the request at a place of a name's list
+pub record IsNumbered (n : LockName) (rs : List Request) (place number : ℕ) : Type 0 where
+  pub before : asked_before n rs place ≡ number
+  pub through : asked_before n rs (suc place) ≡ suc number
+  pub within : place < length rs

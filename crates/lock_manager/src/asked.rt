@@ -1,13 +1,13 @@
 //! The requests of a line, listed by the name that they ask for, so that a question about a name looks at no other.
 
-ghost use Rattle.std.specs.Prelude.{◌≡◌, ◌≤◌, ◌<◌, ◌+◌, ℕ, true, false, ◌&&◌, not, MatchOption, length, ◌++◌, ◌∷◌, [], None, if◌then◌else◌};
+ghost use Rattle.std.specs.Prelude.{◌≡◌, ◌≤◌, ◌<◌, ◌+◌, ℕ, true, false, ◌&&◌, not, MatchOption, length, ◌++◌, ◌∷◌, [], Some, None, take, if◌then◌else◌};
 ghost use Rattle.std.specs.HashMap.{spare, get};
-ghost use Rattle.std.specs.List.{list_any, remove, slice_index_or};
+ghost use Rattle.std.specs.List.{list_any, remove, slice_get};
 ghost use Rattle.std.specs.Option.{is_some};
 ghost use Rattle.dby_types.specs.declared.number.TxnNo.{TxnNo};
 ghost use Rattle.lock_modes.specs.Names.{same_txn};
 ghost use Rattle.lock_modes.specs.Waits.{asks_before};
-ghost use Rattle.lock_manager.specs.Asked.{asks_for, is_asked, asked_at, IsByName, Closes};
+ghost use Rattle.lock_manager.specs.Asked.{asks_for, is_asked, asked_at, asked_before, is_apart, is_of, IsByName, Closes};
 ghost use Rattle.lock_manager.specs.Places.{same_place, place};
 ghost use Rattle.lock_manager.specs.Serve.{contests};
 ghost use Rattle.lock_manager.specs.declared.places.Place.{Place};
@@ -111,14 +111,56 @@ fn end(asked: &Asked, line: &[Request], name: LockName) -> usize
     i
 }
 
-/// How many of some requests are for a name.
-fn count(requests: &[Request], name: LockName) -> usize
-    ensures exact { result ≡ length (asks_for name requests.now) }
+/// A transaction, other than the one that asks, with a request that is in the way of one in the line and stands before it.
+pub fn asker_before(asked: &Asked, line: &[Request], at: usize, r: Request) -> Option<TxnNo>
+    requires by_name { IsByName asked.now line.now }
+    requires apart { is_apart line.now ≡ true }
+    requires there { slice_get line.now at ≡ Some r }
+    ensures found { MatchOption result ((h : TxnNo) → (not (same_txn h r.txn) && asks_before (take at line.now) r h) ≡ false) (λ h. (not (same_txn h r.txn) && asks_before (take at line.now) r h) ≡ true) }
 {
-    requests
-        .iter()
-        .filter(|q| is_same_name(q.name, name))
-        .count()
+    let len = line.len();
+    let mut i = 0;
+    'each: while i < len {
+        let Some(q) = request_at(asked, r.name, i) else {
+            return None;
+        };
+        if is_same_txn(q.txn, r.txn) {
+            return None;
+        }
+        if is_in_way(q, r) {
+            return Some(q.txn);
+        }
+        i += 1;
+    }
+    None
+}
+
+/// Where in its name's list a request of the line stands: where its transaction does.
+fn number_of(asked: &Asked, line: &[Request], at: usize, r: Request) -> usize
+    requires by_name { IsByName asked.now line.now }
+    requires apart { is_apart line.now ≡ true }
+    requires there { slice_get line.now at ≡ Some r }
+    ensures exact { result ≡ asked_before r.name line.now at }
+{
+    let len = line.len();
+    let mut i = 0;
+    'each: while i < len {
+        if is_of(request_at(asked, r.name, i), r.txn) {
+            return i;
+        }
+        i += 1;
+    }
+    i
+}
+
+/// Whether there is a request, and it is a transaction's.
+pub fn is_of(request: Option<Request>, t: TxnNo) -> bool
+    ensures exact { result ≡ is_of t request }
+{
+    match request {
+        Some(r) => is_same_txn(r.txn, t),
+        None => false,
+    }
 }
 
 /// Lists a request that comes to the end of the line.
@@ -136,12 +178,12 @@ pub fn note(asked: &mut Asked, line: &[Request], r: Request)
 /// Takes a request, which stands at a place of the line, out of its name's list.
 pub fn strike(asked: &mut Asked, line: &[Request], at: usize, r: Request)
     requires by_name { IsByName asked.old line.now }
-    requires within { at < length line.now }
-    requires there { r ≡ slice_index_or line.now at r }
+    requires apart { is_apart line.now ≡ true }
+    requires there { slice_get line.now at ≡ Some r }
     ensures by_name { IsByName asked.new (remove line.now at) }
     ensures room { spare asked.old ≤ spare asked.new }
 {
-    let first = count(&line[..at], r.name);
+    let first = number_of(asked, line, at, r);
     let end = end(asked, line, r.name);
     close(asked, r.name, first, end - 1);
 }

@@ -109,8 +109,13 @@ impl Ledger {
         list(&mut self.places, r.name, r.txn);
     }
 
-    /// Sets room aside for a request.
-    pub fn wait(&mut self, txn: TxnNo)
+    /// The ticket that a transaction drew when it last began to wait.
+    pub fn ticket(&self, txn: TxnNo) -> u64 {
+        owners::ticket(&self.owners, txn)
+    }
+
+    /// Sets room aside for a request, and notes its ticket.
+    pub fn wait(&mut self, txn: TxnNo, ticket: u64)
         requires room { 0 < left_in self.old.owners.entries txn }
         requires idle { waits_in self.old.owners.entries txn ≡ false }
         ensures changes { Changes self.old.owners.entries self.new.owners.entries txn (grants_in self.old.owners.entries) }
@@ -118,7 +123,7 @@ impl Ledger {
         ensures same { waits_in self.new.owners.entries txn ≡ true }
         ensures victim { victim_in self.new.owners.entries txn ≡ victim_in self.old.owners.entries txn }
     {
-        owners::wait(&mut self.owners, txn);
+        owners::wait(&mut self.owners, txn, ticket);
     }
 
     /// Takes away all that a transaction has on a name.

@@ -11,6 +11,7 @@ pub mod holdings;
 pub mod ledger;
 pub mod line;
 pub mod names;
+pub mod next;
 pub mod owner;
 pub mod owners;
 pub mod places;
@@ -19,5 +20,6 @@ pub mod table;
 pub mod tallies;
 #[cfg(test)]
 mod tests;
+pub mod tickets;
 pub mod tried;
 pub mod unlisting;

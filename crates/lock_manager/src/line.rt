@@ -1,11 +1,13 @@
 //! A line of queued requests, and the same by name.
 
-ghost use Rattle.std.specs.Prelude.{◌≡◌, ◌≤◌, ◌<◌, ◌+◌, ◌++◌, ◌∷◌, [], true, false, not, ◌&&◌, MatchOption, OnOk, length};
+ghost use Rattle.std.specs.Prelude.{◌≡◌, ◌≤◌, ◌<◌, ◌+◌, ◌++◌, ◌∷◌, [], true, false, not, ◌&&◌, MatchOption, OnOk, Some, length, take};
 ghost use Rattle.std.specs.HashMap.{spare};
 ghost use Rattle.std.specs.Vec.{vec_len, vec_capacity};
-ghost use Rattle.lock_manager.specs.Asked.{IsByName};
+ghost use Rattle.lock_manager.specs.Asked.{IsByName, is_apart};
 
 use crate::asked::{self, Asked};
+use crate::ledger::Ledger;
+use crate::tickets::place_at;
 use dby_types::number::TxnNo;
 use lock_modes::entry::Request;
 use lock_modes::mode::Mode;
@@ -19,14 +21,15 @@ pub struct Line {
     pub line: Vec<Request>,
     pub asked: Asked,
     ghost by_name: { IsByName asked line.items },
+    ghost apart: { is_apart line.items ≡ true },
 }
 
 impl Line {
-    ghost use Rattle.std.specs.List.{list_any, remove};
+    ghost use Rattle.std.specs.List.{list_any, remove, slice_get};
     ghost use Rattle.dby_types.specs.declared.number.TxnNo.{TxnNo};
     ghost use Rattle.lock_modes.specs.Names.{same_txn};
     ghost use Rattle.lock_modes.specs.Waits.{asks_before};
-    ghost use Rattle.lock_manager.specs.Asked.{is_asked};
+    ghost use Rattle.lock_manager.specs.Asked.{is_asked, is_of, asks_for, IsNumbered};
     ghost use Rattle.lock_manager.specs.Room.{LineGrows, LineHasRoom};
     ghost use Rattle.lock_manager.specs.Serve.{contests};
 
@@ -55,6 +58,21 @@ impl Line {
         asked::asker_in_way(&self.asked, &self.line, r)
     }
 
+    /// A transaction, other than the one that asks at a place of the line, with a request before it that is in the way.
+    pub fn asker_before(&self, at: usize, r: Request) -> Option<TxnNo>
+        requires there { slice_get self.now.line.items at ≡ Some r }
+        ensures found { MatchOption result ((h : TxnNo) → (not (same_txn h r.txn) && asks_before (take at self.now.line.items) r h) ≡ false) (λ h. (not (same_txn h r.txn) && asks_before (take at self.now.line.items) r h) ≡ true) }
+    {
+        asked::asker_before(&self.asked, &self.line, at, r)
+    }
+
+    /// The place in the line of the request at a place of a name's list.
+    pub fn place_at(&self, ledger: &Ledger, name: LockName, number: usize) -> Option<usize>
+        ensures place { MatchOption result (length (asks_for name self.now.line.items) ≤ number) (λ p. IsNumbered name self.now.line.items p number) }
+    {
+        place_at(ledger, &self.asked, &self.line, name, number)
+    }
+
     /// Whether a request on the name isn't compatible with the mode.
     pub fn is_contested(&self, name: LockName, mode: Mode) -> bool
         ensures exact { result ≡ list_any (contests name mode) self.now.line.items }
@@ -63,9 +81,11 @@ impl Line {
     }
 
     /// Adds a request at the end.
+    #[tactic(auto, using(crate::proofs::StandingLemmas::apart_more))]
     pub fn push(&mut self, r: Request)
         requires line { vec_len self.old.line < vec_capacity self.old.line }
         requires asked { 0 < spare self.old.asked }
+        requires apart { list_any (λ q. same_txn q.txn r.txn) self.old.line.items ≡ false }
         ensures items { self.new.line.items ≡ self.old.line.items ++ r ∷ [] }
         ensures len { vec_len self.new.line ≡ vec_len self.old.line + 1 }
         ensures capacity { vec_capacity self.new.line ≡ vec_capacity self.old.line }
@@ -76,6 +96,7 @@ impl Line {
     }
 
     /// Takes the request at a place away.
+    #[tactic(auto, using(crate::proofs::StandingLemmas::apart_less))]
     pub fn remove(&mut self, i: usize)
         requires { i < vec_len self.old.line }
         ensures items { self.new.line.items ≡ remove self.old.line.items i }

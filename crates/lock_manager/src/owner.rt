@@ -21,6 +21,8 @@ pub struct Owner {
     /// Whether room is set aside for its queued request.
     pub waits: bool,
     pub victim: bool,
+    /// What it drew when it last began to wait. No clause speaks of it: it says where to look for the request first.
+    pub ticket: u64,
     pub holdings: Holdings,
     ghost room: { left + (if waits then 1 else 0) ≤ spare holdings.modes },
     ghost tables: { left + (if waits then 1 else 0) ≤ spare holdings.tallies.tables },
@@ -38,6 +40,7 @@ impl Owner {
             left: 0,
             waits: false,
             victim: false,
+            ticket: 0,
             holdings: Holdings::new(alloc),
         }
     }
@@ -118,8 +121,8 @@ impl Owner {
         self.victim = true;
     }
 
-    /// Sets room aside for a request.
-    pub fn wait(&mut self)
+    /// Sets room aside for a request, and notes its ticket.
+    pub fn wait(&mut self, ticket: u64)
         requires room { 0 < self.old.left }
         requires idle { self.old.waits ≡ false }
         ensures waits { self.new.waits ≡ true }
@@ -129,5 +132,6 @@ impl Owner {
     {
         self.left -= 1;
         self.waits = true;
+        self.ticket = ticket;
     }
 }

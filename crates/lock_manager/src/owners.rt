@@ -62,6 +62,14 @@ pub fn left(owners: &Owners, txn: TxnNo) -> u32
     }
 }
 
+/// The ticket that a transaction drew when it last began to wait.
+pub fn ticket(owners: &Owners, txn: TxnNo) -> u64 {
+    match owners.get(&txn) {
+        Some(owner) => owner.ticket,
+        None => 0,
+    }
+}
+
 /// How many names more a transaction may take, now or once it has waited.
 pub fn claim(owners: &Owners, txn: TxnNo) -> usize
     ensures exact { result ≡ claim_in owners.now.entries txn }
@@ -98,8 +106,8 @@ pub fn grant_queued(owners: &mut Owners, r: Request)
     }
 }
 
-/// Sets room aside for a request.
-pub fn wait(owners: &mut Owners, txn: TxnNo)
+/// Sets room aside for a request, and notes its ticket.
+pub fn wait(owners: &mut Owners, txn: TxnNo, ticket: u64)
     requires room { 0 < left_in owners.old.entries txn }
     requires idle { waits_in owners.old.entries txn ≡ false }
     ensures changes { Changes owners.old.entries owners.new.entries txn (grants_in owners.old.entries) }
@@ -108,7 +116,7 @@ pub fn wait(owners: &mut Owners, txn: TxnNo)
     ensures victim { victim_in owners.new.entries txn ≡ victim_in owners.old.entries txn }
 {
     if let Some(owner) = owners.get_mut(&txn) {
-        owner.wait();
+        owner.wait(ticket);
     }
 }
 

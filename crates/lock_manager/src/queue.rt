@@ -1,6 +1,6 @@
 //! Queued requests.
 
-ghost use Rattle.std.specs.Prelude.{◌≡◌, ◌≤◌, ◌<◌, ◌+◌, ℕ, true, false, ◌&&◌, not, OnOk, MatchOption, length, ◌++◌, List, []};
+ghost use Rattle.std.specs.Prelude.{◌≡◌, ◌≤◌, ◌<◌, ◌+◌, ℕ, true, false, ◌&&◌, not, OnOk, MatchOption, Some, length, take, ◌++◌, List, []};
 ghost use Rattle.dby_types.specs.declared.number.TxnNo.{TxnNo};
 ghost use Rattle.lock_modes.specs.Names.{same_txn, same_name};
 ghost use Rattle.lock_modes.specs.Lock.{without};
@@ -12,7 +12,7 @@ ghost use Rattle.lock_manager.specs.Asked.{is_asked, asks_for_any};
 ghost use Rattle.lock_manager.specs.Freed.{asks, frees, name_of, StillBlocked};
 ghost use Rattle.lock_manager.specs.Owners.{grants_in, modes_of};
 ghost use Rattle.lock_manager.specs.Serve.{Waiters, Served, ServedBoth, is_among};
-ghost use Rattle.std.specs.List.{find};
+ghost use Rattle.std.specs.List.{find, slice_get};
 ghost use Rattle.lock_manager.specs.Room.{FitsAsBefore, Grows, HasRoom, LineFits};
 ghost use Rattle.std.specs.VecDeque.{deque_len, deque_capacity};
 ghost use Rattle.std.specs.Vec.{vec_len};
@@ -21,13 +21,14 @@ use crate::blocking::request_of;
 use crate::freed::{Freed, is_freed, name_of};
 use crate::ledger::Ledger;
 use crate::line::Line;
+use crate::next::next_freed;
 use crate::owner::Owner;
 use dby_types::number::TxnNo;
 use lock_modes::entry::Request;
 use lock_modes::mode::compatible;
 use lock_modes::modes::Modes;
 use lock_modes::name::{LockName, is_same_name, is_same_txn};
-use std::alloc::AllocError;
+use std::alloc::{AllocError, Global};
 use std::collections::{HashMap, VecDeque};
 
 /// Whether a request is in the way of another on the same name.
@@ -37,29 +38,19 @@ pub fn is_opposed(q: Request, r: Request) -> bool
     is_same_name(q.name, r.name) && !compatible(q.mode, r.mode)
 }
 
-/// A transaction, other than the one that asks, with a request that is in the way.
-fn asker_in_way(requests: &[Request], r: Request) -> Option<TxnNo>
-    ensures found { MatchOption result ((h : TxnNo) → (not (same_txn h r.txn) && asks_before requests.now r h) ≡ false) (λ h. (not (same_txn h r.txn) && asks_before requests.now r h) ≡ true) }
-{
-    for q in requests {
-        if !is_same_txn(q.txn, r.txn) && is_opposed(*q, r) {
-            return Some(q.txn);
-        }
-    }
-    None
-}
-
-/// A transaction in the way of a request: by what it has, or by a request among the first or the second ones.
-fn in_way(ledger: &Ledger, first: &[Request], second: &[Request], r: Request) -> Option<TxnNo>
-    ensures found { MatchOption result (IsFree (grants_in ledger.now.owners.entries) (first.now ++ second.now) r) (λ h. blocks (grants_in ledger.now.owners.entries) (first.now ++ second.now) r h ≡ true) }
+/// A transaction in the way of a request at a place of a line: by what it has, or by a request of the line before or one that
+/// stands before it in its own.
+fn in_way(ledger: &Ledger, before: &Line, line: &Line, at: usize, r: Request) -> Option<TxnNo>
+    requires there { slice_get line.now.line.items at ≡ Some r }
+    ensures found { MatchOption result (IsFree (grants_in ledger.now.owners.entries) (before.now.line.items ++ take at line.now.line.items) r) (λ h. blocks (grants_in ledger.now.owners.entries) (before.now.line.items ++ take at line.now.line.items) r h ≡ true) }
 {
     if let Some(h) = ledger.in_way(r) {
         return Some(h);
     }
-    if let Some(h) = asker_in_way(first, r) {
+    if let Some(h) = before.asker_in_way(r) {
         return Some(h);
     }
-    asker_in_way(second, r)
+    line.asker_before(at, r)
 }
 
 /// A transaction in the way of a new request of one that has something on the name already: by what it has, or by a conversion.
@@ -88,45 +79,47 @@ pub fn in_way_of_request(
 }
 
 /// Whether a request stays in its line, where those for names that weren't freed still wait: they needn't be looked at.
-fn stays(ledger: &Ledger, freed: &Freed, first: &[Request], second: &[Request], r: Request) -> bool
-    requires { frees freed.now r.name ≡ false → IsBlocked (grants_in ledger.now.owners.entries) (first.now ++ second.now) r }
-    ensures blocked { result ≡ true → IsBlocked (grants_in ledger.now.owners.entries) (first.now ++ second.now) r }
-    ensures free { result ≡ false → IsFree (grants_in ledger.now.owners.entries) (first.now ++ second.now) r }
+fn stays(ledger: &Ledger, freed: &Freed, before: &Line, line: &Line, at: usize, r: Request) -> bool
+    requires there { slice_get line.now.line.items at ≡ Some r }
+    requires still { frees freed.now r.name ≡ false → IsBlocked (grants_in ledger.now.owners.entries) (before.now.line.items ++ take at line.now.line.items) r }
+    ensures blocked { result ≡ true → IsBlocked (grants_in ledger.now.owners.entries) (before.now.line.items ++ take at line.now.line.items) r }
+    ensures free { result ≡ false → IsFree (grants_in ledger.now.owners.entries) (before.now.line.items ++ take at line.now.line.items) r }
     ensures freed { result ≡ false → frees freed.now r.name ≡ true }
 {
     if !is_freed(freed, r.name) {
         return true;
     }
-    in_way(ledger, first, second, r).is_some()
+    in_way(ledger, before, line, at, r).is_some()
 }
 
-/// Grants, in order, each request of a line that nothing is in the way of, and notes those that were granted. Only those for
-/// names that were freed are looked at.
+/// Grants, in order, each request of a line that nothing is in the way of, and notes those that were granted. It goes from one
+/// request for a name that was freed to the next.
 pub fn serve(
     ledger: &mut Ledger,
     freed: &Freed,
-    before: &[Request],
+    before: &Line,
     line: &mut Line,
     woken: &mut VecDeque<Request>,
 )
     requires waiters { Waiters ledger.old.owners.entries line.old.line.items }
-    requires still { StillBlocked (frees freed.now) (grants_in ledger.old.owners.entries) before.now line.old.line.items }
+    requires still { StillBlocked (frees freed.now) (grants_in ledger.old.owners.entries) before.now.line.items line.old.line.items }
     requires room { deque_len woken.old + vec_len line.old.line ≤ deque_capacity woken.old }
-    ensures served { Served ledger.old.owners.entries ledger.new.owners.entries before.now line.old.line.items line.new.line.items woken.old.items woken.new.items }
-    ensures still { (after : List Request) → StillBlocked (frees freed.now) (grants_in ledger.old.owners.entries) before.now (line.old.line.items ++ after) → StillBlocked (frees freed.now) (grants_in ledger.new.owners.entries) (before.now ++ line.new.line.items) after }
+    ensures served { Served ledger.old.owners.entries ledger.new.owners.entries before.now.line.items line.old.line.items line.new.line.items woken.old.items woken.new.items }
+    ensures still { (after : List Request) → StillBlocked (frees freed.now) (grants_in ledger.old.owners.entries) before.now.line.items (line.old.line.items ++ after) → StillBlocked (frees freed.now) (grants_in ledger.new.owners.entries) (before.now.line.items ++ line.new.line.items) after }
     ensures room { deque_len woken.new + vec_len line.new.line ≡ deque_len woken.old + vec_len line.old.line }
     ensures capacity { deque_capacity woken.new ≡ deque_capacity woken.old }
     ensures fits { LineFits line.old line.new }
 {
-    let mut i = 0;
+    let mut i = next_freed(ledger, freed, line, 0);
     'each: while i < line.line.len() {
         let r = line.line[i];
-        if stays(ledger, freed, before, &line.line[..i], r) {
-            i += 1;
+        if stays(ledger, freed, before, line, i, r) {
+            i = next_freed(ledger, freed, line, i + 1);
         } else {
             line.remove(i);
             ledger.grant_queued(r);
             woken.push_back_reserved(r);
+            i = next_freed(ledger, freed, line, i);
         }
     }
 }
@@ -200,6 +193,7 @@ fn was_wanted(conversions: &Line, requests: &Line, asked: Option<LockName>) -> b
 /// Grants, in the order of the queue, each request that nothing is in the way of, and notes those that were granted. Only
 /// those for names that were freed are looked at.
 pub fn serve_both(
+    alloc: Global,
     ledger: &mut Ledger,
     freed: &Freed,
     conversions: &mut Line,
@@ -215,8 +209,9 @@ pub fn serve_both(
     if !may_wake(conversions, requests, freed) {
         return;
     }
-    serve(ledger, freed, &[], conversions, woken);
-    serve(ledger, freed, &conversions.line, requests, woken);
+    let nobody = Line::new(alloc);
+    serve(ledger, freed, &nobody, conversions, woken);
+    serve(ledger, freed, conversions, requests, woken);
 }
 
 /// Takes a transaction's requests away.

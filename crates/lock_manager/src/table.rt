@@ -21,6 +21,7 @@ use crate::owners;
 use crate::queue::{
     asked_by, drop_both, in_way_of_conversion, in_way_of_request, make_room, serve_both,
 };
+use crate::tickets::next_ticket;
 use crate::tried::Tried;
 use dby_types::number::TxnNo;
 use lock_modes::cycle::Edge;
@@ -299,7 +300,8 @@ impl LockTable {
         ensures room { (u : TxnNo) → spare_of self.new u ≡ (if same_txn r.txn u then spare_of self.old u - 1 else spare_of self.old u) }
         ensures woken { woken_of self.new ≡ woken_of self.old }
     {
-        self.ledger.wait(r.txn);
+        let ticket = next_ticket(&self.ledger, &self.conversions.line);
+        self.ledger.wait(r.txn, ticket);
         self.left -= 1;
         self.conversions.push(r);
     }
@@ -312,7 +314,8 @@ impl LockTable {
         ensures room { (u : TxnNo) → spare_of self.new u ≡ (if same_txn r.txn u then spare_of self.old u - 1 else spare_of self.old u) }
         ensures woken { woken_of self.new ≡ woken_of self.old }
     {
-        self.ledger.wait(r.txn);
+        let ticket = next_ticket(&self.ledger, &self.requests.line);
+        self.ledger.wait(r.txn, ticket);
         self.left -= 1;
         self.requests.push(r);
     }
@@ -326,6 +329,7 @@ impl LockTable {
     {
         self.ledger.release(t, name);
         serve_both(
+            self.alloc,
             &mut self.ledger,
             &Freed::Name(name),
             &mut self.conversions,
@@ -367,6 +371,7 @@ impl LockTable {
     {
         self.ledger.release_rows(t, table);
         serve_both(
+            self.alloc,
             &mut self.ledger,
             &Freed::Rows(table),
             &mut self.conversions,
@@ -389,6 +394,7 @@ impl LockTable {
         self.left -= left as usize;
         drop_both(&mut self.conversions, &mut self.requests, t, waits);
         serve_both(
+            self.alloc,
             &mut self.ledger,
             &Freed::All { had, asked },
             &mut self.conversions,

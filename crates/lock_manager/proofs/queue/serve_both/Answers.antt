@@ -11,20 +11,28 @@ pub serve-requires-clause-waiters : goal.serve-requires-clause-waiters
 serve-requires-clause-waiters c = waiters_front c.args.ledger.now.owners.entries c.args.conversions.now.line.items c.args.requests.now.line.items c.requires.waiters
 
 pub serve-requires-2-clause-waiters : goal.serve-requires-2-clause-waiters
-serve-requires-2-clause-waiters c = waiters_second c.args.ledger.now.owners.entries c.serve.new.ledger.owners.entries c.args.conversions.now.line.items c.args.requests.now.line.items c.serve.new.line.line.items c.args.woken.now.items c.serve.new.woken.items c.requires.waiters c.serve.ensures.served
+serve-requires-2-clause-waiters c =
+    let first = subst (λ (x : List Request). Served c.args.ledger.now.owners.entries c.serve.new.ledger.owners.entries x c.args.conversions.now.line.items c.serve.new.line.line.items c.args.woken.now.items c.serve.new.woken.items) c.new-nobody.ensures.none c.serve.ensures.served in
+    waiters_second c.args.ledger.now.owners.entries c.serve.new.ledger.owners.entries c.args.conversions.now.line.items c.args.requests.now.line.items c.serve.new.line.line.items c.args.woken.now.items c.serve.new.woken.items c.requires.waiters first
 
 pub returns-clause-served : goal.returns-clause-served
 returns-clause-served c =
-    let second = subst (λ (x : List Request). Served c.serve.new.ledger.owners.entries c.serve-2.new.ledger.owners.entries x c.args.requests.now.line.items c.serve-2.new.line.line.items c.serve.new.woken.items c.serve-2.new.woken.items) c.deref.ensures.value c.serve-2.ensures.served in
+    let first = subst (λ (x : List Request). Served c.args.ledger.now.owners.entries c.serve.new.ledger.owners.entries x c.args.conversions.now.line.items c.serve.new.line.line.items c.args.woken.now.items c.serve.new.woken.items) c.new-nobody.ensures.none c.serve.ensures.served in
     served_both c.args.ledger.now.owners.entries c.serve.new.ledger.owners.entries c.serve-2.new.ledger.owners.entries c.args.conversions.now.line.items c.args.requests.now.line.items c.serve.new.line.line.items c.serve-2.new.line.line.items c.args.woken.now.items c.serve.new.woken.items c.serve-2.new.woken.items
-    c.requires.waiters c.serve.ensures.served second
+    c.requires.waiters first c.serve-2.ensures.served
 
 pub serve-requires-clause-still : goal.serve-requires-clause-still
-serve-requires-clause-still c = still_front (frees c.args.freed.now) (grants_in c.args.ledger.now.owners.entries) [] c.args.conversions.now.line.items c.args.requests.now.line.items c.requires.still
+serve-requires-clause-still c =
+    subst (λ (x : List Request). StillBlocked (frees c.args.freed.now) (grants_in c.args.ledger.now.owners.entries) x c.args.conversions.now.line.items) (sym c.new-nobody.ensures.none)
+    (still_front (frees c.args.freed.now) (grants_in c.args.ledger.now.owners.entries) [] c.args.conversions.now.line.items c.args.requests.now.line.items c.requires.still)
 
 pub serve-requires-2-clause-still : goal.serve-requires-2-clause-still
 serve-requires-2-clause-still c =
-    subst (λ (x : List Request). StillBlocked (frees c.args.freed.now) (grants_in c.serve.new.ledger.owners.entries) x c.args.requests.now.line.items) (sym c.deref.ensures.value) (c.serve.ensures.still c.args.requests.now.line.items c.requires.still)
+    let os' = c.serve.new.ledger.owners.entries in
+    let rs = c.args.requests.now.line.items in
+    let none = c.new-nobody.ensures.none in
+    let whole = subst (λ (x : List Request). StillBlocked (frees c.args.freed.now) (grants_in c.args.ledger.now.owners.entries) x (c.args.conversions.now.line.items ++ rs)) (sym none) c.requires.still in
+    subst (λ (x : List Request). StillBlocked (frees c.args.freed.now) (grants_in os') (x ++ c.serve.new.line.line.items) rs) none (c.serve.ensures.still rs whole)
 
 pub returns-then-not-may_wake-clause-served : goal.returns-then-not-may_wake-clause-served
 returns-then-not-may_wake-clause-served c =

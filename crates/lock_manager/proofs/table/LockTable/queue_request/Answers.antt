@@ -6,7 +6,7 @@ use Rattle.lock_manager.specs.Owners.{grants_in, waits_in}
 use Rattle.lock_manager.specs.Serve.{Waiters, is_among}
 use Rattle.lock_manager.specs.Table.{lock}
 use Rattle.lock_manager.proofs.BlockedLemmas.{queued_request}
-use Rattle.lock_manager.proofs.TableLemmas.{keep_victims, settled_as, lock_path, grants_path, not_among, waiters_insert, only_insert, behind_all, set_aside, less_left}
+use Rattle.lock_manager.proofs.TableLemmas.{keep_victims, settled_as, lock_path, grants_path, not_among, not_among_parts, waiters_insert, only_insert, behind_all, set_aside, less_left}
 use Rattle.lock_manager.proofs.TableLemmas.{apart_as}
 use Rattle.lock_manager.proofs.RoomLemmas.{room_less, room_pushed}
 use Rattle.lock_manager.proofs.table.LockTable.queue_request.Goals as goal
@@ -78,3 +78,8 @@ returns-clause-room c =
 
 pub wait-requires-clause-idle : goal.wait-requires-clause-idle
 wait-requires-clause-idle c = c.args.self.now.only c.args.r.txn ∙ not_among (lock c.args.self.now) c.args.r.txn c.requires.idle
+
+pub push-requires-clause-apart : goal.push-requires-clause-apart
+push-requires-clause-apart c =
+    let s = c.args.self.now in
+    (not_among_parts c.args.r.txn s.conversions.line.items s.requests.line.items (not_among (lock s) c.args.r.txn c.requires.idle)).1
