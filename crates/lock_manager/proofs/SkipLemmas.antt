@@ -28,15 +28,15 @@ skips_on p rs i j k a b = record { from = (let x = a.from in let y = b.from in o
     cases m low high q there true s = a.none m low (ltb-true m j s) q there
     cases m low high q there false s = b.none m (ltb-false m j s) high q there
 
-pub skips_step : (p : LockName → Bool) (rs : List Request) (i j : ℕ) (r : Request) → j < length rs → r ≡ get_or rs j r → p r.name ≡ false → Skips p rs i j → Skips p rs i (j + 1)
-skips_step p rs i j r within read none a = record { from = (let x = a.from in omega (arith, x)); within = omega (arith, within); none = λ m low high q there. cases m low high q there (nat_lt m j) refl }
+pub skips_step : (p : LockName → Bool) (rs : List Request) (i j : ℕ) (d : Request) → j < length rs → p (get_or rs j d).name ≡ false → Skips p rs i j → Skips p rs i (j + 1)
+skips_step p rs i j d within none a = record { from = (let x = a.from in omega (arith, x)); within = omega (arith, within); none = λ m low high q there. cases m low high q there (nat_lt m j) refl }
   where
     cases : (m : ℕ) → i ≤ m → m < j + 1 → (q : Request) → slice_get rs m ≡ Some q → (w : Bool) → nat_lt m j ≡ w → p q.name ≡ false
     cases m low high q there true s = a.none m low (ltb-true m j s) q there
     cases m low high q there false s =
         let least = ltb-false m j s in
         let is : m ≡ j = omega (arith, least, high) in
-        let same : q ≡ r = sym (get_or_from_slice_get rs m q r there) ∙ ap (λ x. get_or rs x r) is ∙ sym read in
+        let same : q ≡ get_or rs j d = sym (get_or_from_slice_get rs m q d there) ∙ ap (λ x. get_or rs x d) is in
         ap (λ (x : Request). p x.name) same ∙ none
 
 -- a shorter stretch, and one of names that pass either test

@@ -1,4 +1,4 @@
-use Rattle.std.proofs.Common.{◌≡◌, ◌≤◌, ◌-◌, take}
+use Rattle.std.proofs.Common.{◌≤◌, ◌-◌, take}
 use Rattle.lock_manager.specs.Asked.{asked_before}
 use Rattle.lock_manager.proofs.AskedLemmas.{Passed}
 use Rattle.lock_manager.proofs.asked.asker_before.Given as goal

@@ -1,4 +1,4 @@
-use Rattle.std.proofs.Common.{◌≡◌, ◌∙◌, ap, sym, arith, false, true}
+use Rattle.std.proofs.Common.{◌∙◌, ap, sym, arith}
 use Rattle.lock_manager.specs.Asked.{is_of}
 use Rattle.lock_manager.proofs.AheadLemmas.{own, one_on, at_most}
 use Rattle.lock_manager.proofs.asked.number_of.Goals as goal

@@ -1,5 +1,4 @@
 use Rattle.std.proofs.Common.{arith, ◌≡◌, ℕ, length, subst}
-use Rattle.std.specs.Vec.{vec_len}
 use Rattle.lock_modes.specs.Names.{same_name}
 use Rattle.lock_manager.specs.Freed.{Skips}
 use Rattle.lock_manager.proofs.SkipLemmas.{skips_to, skips_rest}
@@ -10,7 +9,7 @@ returns-in-Some c = record { skips = skips_to c.args.name c.args.line.now.line.i
 
 pub returns-in-None : goal.returns-in-None
 returns-in-None c =
-    let same : length c.args.line.now.line.items ≡ vec_len c.args.line.now.line = omega arith in
+    let same : length c.args.line.now.line.items ≡ c.len.result = omega (arith, c.len.ensures) in
     record {
       skips = subst (λ (k : ℕ). Skips (same_name c.args.name) c.args.line.now.line.items c.args.i k) same
           (skips_rest c.args.name c.args.line.now.line.items c.args.i c.count_before-number.result (omega (arith, c.requires)) c.count_before-number.ensures.exact c.in-None.ensures.place);

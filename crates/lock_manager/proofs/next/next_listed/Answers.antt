@@ -1,4 +1,4 @@
-use Rattle.std.proofs.Common.{subst, sym}
+use Rattle.std.proofs.Common.{arith, subst, sym}
 use Rattle.lock_modes.specs.Modes.{is_held}
 use Rattle.lock_manager.specs.declared.freed.Freed.{Freed}
 use Rattle.lock_manager.specs.Freed.{asks, frees, Skips}
@@ -10,7 +10,7 @@ pub returns-in-Name : goal.returns-in-Name
 returns-in-Name c = record { skips = subst (λ (f : Freed). Skips (frees f) c.args.line.now.line.items c.args.i c.next_asked.result) (sym c.in-Name.is) c.next_asked.ensures.skips }
 
 pub returns-in-Rows : goal.returns-in-Rows
-returns-in-Rows c = record { skips = skips_none (frees c.args.freed.now) c.args.line.now.line.items c.args.i c.requires }
+returns-in-Rows c = record { skips = skips_none (frees c.args.freed.now) c.args.line.now.line.items c.args.i (omega (arith, c.requires.within)) }
 
 pub returns-in-All : goal.returns-in-All
 returns-in-All c = record {

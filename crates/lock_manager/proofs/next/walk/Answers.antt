@@ -9,5 +9,5 @@ each-init c = record { within = c.requires.start; skips = skips_none (frees c.ar
 pub each-preserved : goal.each-preserved
 each-preserved c = record {
   within = omega arith;
-  skips = skips_step (frees c.args.freed.now) c.args.line.now c.args.i c.each.at c.index.result.now (omega (arith, c.requires.within)) c.index.ensures (sym c.is_freed.ensures.exact ∙ c.if-is_freed.false) c.each.invariant.skips;
+  skips = skips_step (frees c.args.freed.now) c.args.line.now c.args.i c.each.at _ (omega (arith, c.requires.within)) (sym c.is_freed.ensures.exact ∙ c.if-is_freed.false) c.each.invariant.skips;
 }

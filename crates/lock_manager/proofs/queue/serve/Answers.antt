@@ -34,11 +34,11 @@ each-preserved-then-stays c =
     let os' = c.each.ledger.owners.entries in
     let next = serving_stays (frees c.args.freed.now) os os' c.args.before.now.line.items c.args.line.now.line.items c.each.line.line.items c.args.woken.now.items c.each.woken.items c.each.i c.index-r.result.now c.each.invariant.serving (omega arith) c.index-r.ensures (c.stays.ensures.blocked c.if-stays.true) in
     record {
-      serving = serving_skips (frees c.args.freed.now) os os' c.args.before.now.line.items c.args.line.now.line.items c.each.line.line.items c.args.woken.now.items c.each.woken.items (c.each.i + 1) c.next_freed.result c.requires.still next c.next_freed.ensures.skips;
+      serving = serving_skips (frees c.args.freed.now) os os' c.args.before.now.line.items c.args.line.now.line.items c.each.line.line.items c.args.woken.now.items c.each.woken.items (c.each.i + 1) c.next_freed-i-then-stays.result c.requires.still next c.next_freed-i-then-stays.ensures.skips;
       sum = c.each.invariant.sum;
       room = c.each.invariant.room;
       fits = c.each.invariant.fits;
-      within = (let end = c.next_freed.ensures.skips.within in omega (arith, end));
+      within = (let end = c.next_freed-i-then-stays.ensures.skips.within in omega (arith, end));
     }
 
 pub grant_queued-requires : goal.grant_queued-requires
@@ -57,11 +57,11 @@ each-preserved c =
     let moved = subst (λ (g : List Request). Serving t os os' before line c.remove.new.self.line.items c.each.i given g) (sym c.push_back_reserved.ensures.items)
     (subst (λ (l : List Request). Serving t os os' before line l c.each.i given (c.each.woken.items ++ c.index-r.result.now ∷ [])) (sym c.remove.ensures.items) step) in
     record {
-      serving = serving_skips t os os' before line c.remove.new.self.line.items given c.push_back_reserved.new.self.items c.each.i c.next_freed-2.result c.requires.still moved c.next_freed-2.ensures.skips;
+      serving = serving_skips t os os' before line c.remove.new.self.line.items given c.push_back_reserved.new.self.items c.each.i c.next_freed-i-else-stays.result c.requires.still moved c.next_freed-i-else-stays.ensures.skips;
       sum = omega (arith, c.each.invariant.sum, c.push_back_reserved.ensures.len, c.remove.ensures.len);
       room = c.push_back_reserved.ensures.capacity ∙ c.each.invariant.room;
       fits = record { shorter = omega (arith, c.remove.ensures.len, c.each.invariant.fits.shorter); room = c.remove.ensures.capacity ∙ c.each.invariant.fits.room; names = omega (arith, c.remove.ensures.spare, c.each.invariant.fits.names) };
-      within = (let end = c.next_freed-2.ensures.skips.within in omega (arith, end));
+      within = (let end = c.next_freed-i-else-stays.ensures.skips.within in omega (arith, end));
     }
 
 pub returns-clause-served : goal.returns-clause-served

@@ -1,4 +1,4 @@
-use Rattle.std.proofs.Common.{◌≡◌, ◌∙◌, ap, sym, arith, false, true, refl}
+use Rattle.std.proofs.Common.{◌∙◌, sym, arith}
 use Rattle.lock_manager.proofs.SearchLemmas.{search_on, search_ends}
 use Rattle.lock_manager.proofs.tickets.search.Goals as goal
 
@@ -9,4 +9,4 @@ each-preserved c = record {
 }
 
 pub returns : goal.returns
-returns c = record { there = search_ends c.args.t c.args.line.now c.each.i (omega arith) (sym c.each.invariant.passed ∙ c.requires) }
+returns c = record { there = search_ends c.args.t c.args.line.now c.each.i (omega arith) (sym c.each.invariant.passed ∙ c.requires.among) }

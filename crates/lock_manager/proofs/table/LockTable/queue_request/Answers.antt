@@ -11,8 +11,8 @@ use Rattle.lock_manager.proofs.TableLemmas.{apart_as}
 use Rattle.lock_manager.proofs.RoomLemmas.{room_less, room_pushed}
 use Rattle.lock_manager.proofs.table.LockTable.queue_request.Goals as goal
 
-pub invariant_of-self : goal.invariant_of-self
-invariant_of-self c =
+pub invariant_of-self-2 : goal.invariant_of-self-2
+invariant_of-self-2 c =
     let s = c.args.self.now in
     let os = s.ledger.owners.entries in
     let os' = c.wait.new.self.owners.entries in
