@@ -1,0 +1,11 @@
+pub mod Trees
+pub mod Types
+pub mod Names
+pub mod Expressions
+pub mod Faults
+pub mod Order
+pub mod Bound
+pub mod From
+pub mod Queries
+pub mod Changes
+pub mod Binding
