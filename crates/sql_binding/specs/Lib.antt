@@ -8,4 +8,5 @@ pub mod Bound
 pub mod From
 pub mod Queries
 pub mod Changes
+pub mod Creating
 pub mod Binding
