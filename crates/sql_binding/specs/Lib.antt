@@ -10,3 +10,4 @@ pub mod Queries
 pub mod Changes
 pub mod Creating
 pub mod Binding
+pub mod Laws

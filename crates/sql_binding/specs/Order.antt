@@ -33,6 +33,11 @@ abbrev pub refusal_of : List SqlState → Option SqlState
 refusal_of [] = None
 refusal_of (why ∷ whys) = Some (or_earlier why (refusal_of whys))
 
+-- the refusal of what was found so far, and then that of what comes behind it
+abbrev pub kept_with : Option SqlState → Option SqlState → Option SqlState
+kept_with None later = later
+kept_with (Some why) later = Some (or_earlier why later)
+
 -- the bound form, where nothing is wrong
 abbrev pub given_unless : {X : Type 0} → Option SqlState → X → Result X SqlState
 given_unless None x = Ok x

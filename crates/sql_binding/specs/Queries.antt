@@ -198,13 +198,16 @@ query d q = record
     ; groups = groups_if (is_grouped q) (record { whole = is_empty q.group; keys = keys_of d q; sums = sums_of (query_sources d q) (items_of q.shown) })
     ; order = order_of (shown_in d q) q.order }
 
--- ALL THAT IS WRONG with a query, each class from left to right
-abbrev pub query_faults : Dictionary → SelectText → List SqlState
-query_faults d q =
-    missing_tables d (tables_of q.from)
-    ++ (shown_faults (query_scope d q) (length (keys_of d q)) q.shown
+-- what is wrong behind the tables' names
+abbrev pub later_faults : Dictionary → SelectText → List SqlState
+later_faults d q =
+    shown_faults (query_scope d q) (length (keys_of d q)) q.shown
     ++ (condition_faults (query_sources d q) (conditions_of q)
     ++ (group_faults (query_sources d q) q.group
     ++ (order_faults (shown_in d q) q.order
     ++ (twice_faults (exposed_names (query_sources d q))
-    ++ limit_faults (length (tables_of q.from)) 8)))))
+    ++ limit_faults (length (tables_of q.from)) 8))))
+
+-- ALL THAT IS WRONG with a query, each class from left to right
+abbrev pub query_faults : Dictionary → SelectText → List SqlState
+query_faults d q = missing_tables d (tables_of q.from) ++ later_faults d q

@@ -1,11 +1,69 @@
 //! Laws of binding: what holds of every statement and dictionary. Each call is a proof and does nothing.
 
+ghost use Rattle.dby_types.specs.declared.definition.ColumnDef.{ColumnDef};
+ghost use Rattle.dby_types.specs.declared.definition.Dictionary.{Dictionary};
 ghost use Rattle.dby_types.specs.declared.state.SqlState.{SqlState};
-ghost use Rattle.sql_binding.specs.Order.{refusal_of};
-ghost use Rattle.sql_binding.specs.Faults.{faults};
-ghost use Rattle.std.specs.Prelude.{◌≡◌, [], List, None};
+ghost use Rattle.dby_types.specs.declared.state.SqlState.TheVariants.{NoTable};
+ghost use Rattle.sql_ast.specs.declared.bound.Expr.{Expr};
+ghost use Rattle.sql_ast.specs.declared.expression.Expression.{Expression};
+ghost use Rattle.sql_ast.specs.declared.statement.Item.{Item};
+ghost use Rattle.sql_ast.specs.declared.statement.SelectText.{SelectText};
+ghost use Rattle.sql_ast.specs.declared.statement.Statement.{Statement};
+ghost use Rattle.sql_ast.specs.declared.statement.Statement.TheVariants.{Select};
+ghost use Rattle.sql_binding.specs.Binding.{all_faults, binding, bound_form};
+ghost use Rattle.sql_binding.specs.Bound.{Bound};
+ghost use Rattle.sql_binding.specs.Changes.{targets, tuples_trees};
+ghost use Rattle.sql_binding.specs.Expressions.{bound_over, conjuncts_of};
+ghost use Rattle.sql_binding.specs.Faults.{condition_faults, faults_over};
+ghost use Rattle.sql_binding.specs.From.{listed, missing_tables, on_conditions, tables_of};
+ghost use Rattle.sql_binding.specs.Laws.{HasItsPlaces, IsFirst, IsWithin};
+ghost use Rattle.sql_binding.specs.Names.{Source, Spot, width_of};
+ghost use Rattle.sql_binding.specs.Order.{kept_with, refusal_of};
+ghost use Rattle.sql_binding.specs.Queries.{query, query_faults, query_sources};
+ghost use Rattle.sql_binding.specs.Trees.{Tree, conjuncts_in, tree_of, trees_of};
+ghost use Rattle.sql_model.specs.Where.{conjuncts_of as split_of};
+ghost use Rattle.std.specs.Global.{Box};
+ghost use Rattle.std.specs.Prelude.{◌≡◌, ◌≢◌, ◌++◌, [], Err, List, None, Ok, Option, Some, length, ℕ};
+ghost use Rattle.table_model.specs.Tables.{Each};
 
-/// Nothing is refused of nothing.
-pub fn nothing_is_refused()
-    ensures { refusal_of [] ≡ None }
+/// A statement is bound exactly where nothing is wrong with it, and else refused by the first fault of the earliest class: all before it in
+/// the text are of later classes, and none at all is of an earlier one.
+pub fn the_first_of_the_earliest_class_is_told()
+    ensures quiet { (s : Statement) (d : Dictionary) → all_faults s d ≡ [] → binding s d ≡ Ok (bound_form s d) }
+    ensures bound { (s : Statement) (d : Dictionary) (b : Bound) → binding s d ≡ Ok b → (all_faults s d ≡ []) × (b ≡ bound_form s d) }
+    ensures refused { (s : Statement) (d : Dictionary) (why : SqlState) → binding s d ≡ Err why → IsFirst (all_faults s d) why }
+{}
+
+/// The refusal of two lists of faults, one behind the other, is that of the first with that of the second: so faults may be kept as they come.
+pub fn faults_may_be_kept_as_they_come()
+    ensures { (vs ws : List SqlState) → refusal_of (vs ++ ws) ≡ kept_with (refusal_of vs) (refusal_of ws) }
+{}
+
+/// A query over a table that isn't there is refused for that, whatever else is wrong with it.
+pub fn a_missing_table_is_told()
+    ensures { (d : Dictionary) (q : Box SelectText) → missing_tables d (tables_of q.value.from) ≢ [] → binding (Select q) d ≡ Err NoTable }
+{}
+
+/// The columns of an expression that nothing is wrong with stand in the joined row.
+pub fn columns_stand_in_the_row()
+    ensures { (ss : List Source) (e : Expression) → faults_over ss e ≡ [] → IsWithin (width_of ss) (bound_over ss e) }
+{}
+
+/// All places of a bound query are there: those of conjuncts, keys and aggregates' operands in the joined row, those of select items in the
+/// joined row or in the row of a group.
+pub fn a_query_has_its_places()
+    ensures { (d : Dictionary) (q : SelectText) → query_faults d q ≡ [] → HasItsPlaces (width_of (query_sources d q)) (query d q) }
+{}
+
+/// A query's conjuncts are those of ON, from left to right, and then those of WHERE; the meaning splits a condition where the binding does.
+pub fn conjuncts_are_on_then_where()
+    ensures order { (d : Dictionary) (q : SelectText) → (query d q).conjuncts ≡ conjuncts_of (query_sources d q) (on_conditions q.from) ++ conjuncts_of (query_sources d q) (listed q.condition) }
+    ensures split { (e : Expr) → trees_of (split_of e) ≡ conjuncts_in (tree_of e) }
+{}
+
+/// A tuple of INSERT has a value for each column of the table; as many values are wanted as the column list has names.
+pub fn tuples_have_all_columns()
+    ensures all { (columns : List ColumnDef) (spots : List Spot) (ts : List (List Item)) → Each (λ (t : List Tree). length t ≡ length columns) (tuples_trees columns spots ts) }
+    ensures listed { (columns : List ColumnDef) (names : List (List ℕ)) → length (targets columns (Some names)) ≡ length names }
+    ensures whole { (columns : List ColumnDef) → length (targets columns None) ≡ length columns }
 {}

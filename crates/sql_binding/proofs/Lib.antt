@@ -1,0 +1,6 @@
+pub mod Refusing
+pub mod Placing
+pub mod Querying
+pub mod Changing
+pub mod Typing
+pub mod Naming
