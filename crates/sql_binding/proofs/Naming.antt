@@ -1,7 +1,6 @@
 -- A name stands for one column of that name.
-use Rattle.std.proofs.Common.{◌≡◌, ◌≤◌, ◌<◌, ℕ, suc, ◌+◌, Bool, true, false, cond, List, [], ◌∷◌, ◌++◌, length, Option, Some, None, Result, Ok, Err, refl, sym, ap, ◌∙◌, subst, arith}
+use Rattle.std.proofs.Common.{◌≡◌, ◌≤◌, ◌<◌, ℕ, zero, suc, ◌+◌, Bool, true, false, cond, List, [], ◌∷◌, ◌++◌, length, Option, Some, None, Result, Ok, Err, refl, sym, ap, ◌∙◌, subst, arith}
 use Rattle.std.specs.Prelude.{◌≢◌, ◌||◌}
-use Rattle.std.specs.Bool.{Decides}
 use Rattle.std.specs.List.{cons_option}
 use Rattle.std.specs.Str.{bytes_eq}
 use Rattle.std.proofs.lemmas.Slice.Eq.{bytes_eq-Decides}
@@ -66,21 +65,23 @@ pub one_named : (ss : List Source) (name : List ℕ) → tables_with name ss ≡
 one_named ss name h = only_this (spots_from 0 name ss) (spots_long 0 name ss ∙ h)
 
 -- ---- an alias
-unlike : {P : Type 0} → (b : Bool) → Decides b P → (P → ⊥) → b ≡ false
-unlike true d h = absurd (h d)
-unlike false d h = refl
+unlike : (a b : List ℕ) → a ≢ b → bytes_eq a b ≡ false
+unlike a b h = step (bytes_eq a b) refl
+  where
+    step : (r : Bool) → bytes_eq a b ≡ r → r ≡ false
+    step true e = absurd (h ((bytes_eq-Decides a b).0 e))
+    step false e = refl
+
+alike : (a b : List ℕ) → bytes_eq a b ≡ true → a ≡ b
+alike a b e = (bytes_eq-Decides a b).0 e
 
 pub by_alias_alone : (d : Dictionary) (t : TableText) (alias name column : List ℕ) → t.alias ≡ Some alias → name ≢ alias
     → column_named (sources_of d (t ∷ [])) (Some name) column ≡ Err NoColumn
 by_alias_alone d t alias name column h k =
     ap (λ (o : Option (List ℕ)). or_missing (cond (bytes_eq name (exposed_by t.name o)) (spot_from 0 column (columns_of (found_in d t.name))) None)) h
-    ∙ ap (λ (b : Bool). or_missing (cond b (spot_from 0 column (columns_of (found_in d t.name))) None)) (unlike (bytes_eq name alias) (bytes_eq-Decides name alias) k)
+    ∙ ap (λ (b : Bool). or_missing (cond b (spot_from 0 column (columns_of (found_in d t.name))) None)) (unlike name alias k)
 
 -- ---- what a name stands for
-alike : {P : Type 0} → (b : Bool) → Decides b P → b ≡ true → P
-alike true d h = d
-alike false d h = absurd (cc)
-
 one_on : (n : ℕ) (c : ColumnDef) (cs : List ColumnDef) (name : List ℕ) (spot : Spot) → Stands (suc n) cs name spot → Stands n (c ∷ cs) name spot
 one_on n c cs name spot h = let there : spot.place ≡ h.index + suc n = h.place_is in record { index = suc h.index; place_is = omega arith; column = h.column; there = h.there; named = h.named; ty_is = h.ty_is }
 
@@ -95,7 +96,7 @@ spot_stands n name (c ∷ cs) spot h = step (bytes_eq name c.name) refl h (spot_
         → (spot_from (suc n) name cs ≡ Some spot → Stands (suc n) cs name spot) → Stands n (c ∷ cs) name spot
     step true e k more =
         subst (λ (s : Spot). Stands n (c ∷ cs) name s) (some_spot _ spot k)
-            (record { index = 0; place_is = omega arith; column = c; there = refl; named = alike (bytes_eq name c.name) (bytes_eq-Decides name c.name) e; ty_is = refl })
+            (record { index = 0; place_is = omega arith; column = c; there = refl; named = alike name c.name e; ty_is = refl })
     step false e k more = one_on n c cs name spot (more k)
 
 front_at : (k : ℕ) (cs ds : List ColumnDef) (c : ColumnDef) → columns_at k cs ≡ c ∷ [] → columns_at k (cs ++ ds) ≡ c ∷ []
@@ -104,8 +105,10 @@ front_at zero (x ∷ xs) ds c h = h
 front_at (suc k) (x ∷ xs) ds c h = front_at k xs ds c h
 
 back_at : (k : ℕ) (cs ds : List ColumnDef) → columns_at (k + length cs) (cs ++ ds) ≡ columns_at k ds
-back_at k [] ds = refl
-back_at k (x ∷ xs) ds = back_at k xs ds
+back_at k [] ds = ap (λ (m : ℕ). columns_at m ds) (omega arith)
+back_at k (x ∷ xs) ds =
+    let next : k + length (x ∷ xs) ≡ suc (k + length xs) = omega arith in
+    ap (λ (m : ℕ). columns_at m (x ∷ xs ++ ds)) next ∙ back_at k xs ds
 
 in_front : (n : ℕ) (cs ds : List ColumnDef) (name : List ℕ) (spot : Spot) → Stands n cs name spot → Stands n (cs ++ ds) name spot
 in_front n cs ds name spot h =

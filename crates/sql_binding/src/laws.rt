@@ -3,27 +3,29 @@
 ghost use Rattle.dby_types.specs.declared.definition.ColumnDef.{ColumnDef};
 ghost use Rattle.dby_types.specs.declared.definition.Dictionary.{Dictionary};
 ghost use Rattle.dby_types.specs.declared.state.SqlState.{SqlState};
-ghost use Rattle.dby_types.specs.declared.state.SqlState.TheVariants.{NoTable};
+ghost use Rattle.dby_types.specs.declared.state.SqlState.TheVariants.{AmbiguousColumn, NoColumn, NoTable};
+ghost use Rattle.dby_types.specs.declared.value.Ty.TheVariants.{Bool as Truths};
 ghost use Rattle.sql_ast.specs.declared.bound.Expr.{Expr};
 ghost use Rattle.sql_ast.specs.declared.expression.Expression.{Expression};
 ghost use Rattle.sql_ast.specs.declared.statement.Item.{Item};
 ghost use Rattle.sql_ast.specs.declared.statement.SelectText.{SelectText};
 ghost use Rattle.sql_ast.specs.declared.statement.Statement.{Statement};
 ghost use Rattle.sql_ast.specs.declared.statement.Statement.TheVariants.{Select};
+ghost use Rattle.sql_ast.specs.declared.statement.TableText.{TableText};
 ghost use Rattle.sql_binding.specs.Binding.{all_faults, binding, bound_form};
 ghost use Rattle.sql_binding.specs.Bound.{Bound};
 ghost use Rattle.sql_binding.specs.Changes.{targets, tuples_trees};
-ghost use Rattle.sql_binding.specs.Expressions.{bound_over, conjuncts_of};
-ghost use Rattle.sql_binding.specs.Faults.{condition_faults, faults_over};
-ghost use Rattle.sql_binding.specs.From.{listed, missing_tables, on_conditions, tables_of};
-ghost use Rattle.sql_binding.specs.Laws.{HasItsPlaces, IsFirst, IsWithin};
-ghost use Rattle.sql_binding.specs.Names.{Source, Spot, width_of};
+ghost use Rattle.sql_binding.specs.Expressions.{Scope, bound, bound_over, conjuncts_of};
+ghost use Rattle.sql_binding.specs.Faults.{condition_faults, faults, faults_over};
+ghost use Rattle.sql_binding.specs.From.{listed, missing_tables, on_conditions, sources_of, tables_of};
+ghost use Rattle.sql_binding.specs.Laws.{HasItsPlaces, HasKind, IsFirst, IsTyped, IsWithin, Stands, joined_columns, tables_with};
+ghost use Rattle.sql_binding.specs.Names.{Source, Spot, column_named, width_of};
 ghost use Rattle.sql_binding.specs.Order.{kept_with, refusal_of};
 ghost use Rattle.sql_binding.specs.Queries.{query, query_faults, query_sources};
 ghost use Rattle.sql_binding.specs.Trees.{Tree, conjuncts_in, tree_of, trees_of};
 ghost use Rattle.sql_model.specs.Where.{conjuncts_of as split_of};
 ghost use Rattle.std.specs.Global.{Box};
-ghost use Rattle.std.specs.Prelude.{◌≡◌, ◌≢◌, ◌++◌, [], Err, List, None, Ok, Option, Some, length, ℕ};
+ghost use Rattle.std.specs.Prelude.{◌≡◌, ◌≢◌, ◌≤◌, ◌∷◌, ◌++◌, [], Err, List, None, Ok, Option, Some, length, ℕ};
 ghost use Rattle.table_model.specs.Tables.{Each};
 
 /// A statement is bound exactly where nothing is wrong with it, and else refused by the first fault of the earliest class: all before it in
@@ -66,4 +68,28 @@ pub fn tuples_have_all_columns()
     ensures all { (columns : List ColumnDef) (spots : List Spot) (ts : List (List Item)) → Each (λ (t : List Tree). length t ≡ length columns) (tuples_trees columns spots ts) }
     ensures listed { (columns : List ColumnDef) (names : List (List ℕ)) → length (targets columns (Some names)) ≡ length names }
     ensures whole { (columns : List ColumnDef) → length (targets columns None) ≡ length columns }
+{}
+
+/// A name without a qualifier stands for a column exactly where one table of FROM has it: in none it isn't there, in several it is ambiguous.
+pub fn a_name_is_of_one_table()
+    ensures none { (ss : List Source) (name : List ℕ) → tables_with name ss ≡ 0 → column_named ss None name ≡ Err NoColumn }
+    ensures one { (ss : List Source) (name : List ℕ) → tables_with name ss ≡ 1 → (spot : Spot) × (column_named ss None name ≡ Ok spot) }
+    ensures several { (ss : List Source) (name : List ℕ) → 2 ≤ tables_with name ss → column_named ss None name ≡ Err AmbiguousColumn }
+{}
+
+/// What a name stands for is a column of that name in the joined row, and has its type.
+pub fn a_name_stands_for_its_column()
+    ensures { (ss : List Source) (table : Option (List ℕ)) (name : List ℕ) (spot : Spot) → column_named ss table name ≡ Ok spot → Stands 0 (joined_columns ss) name spot }
+{}
+
+/// A table with an alias is known by that alone, and not by its own name.
+pub fn an_alias_hides_the_name()
+    ensures { (d : Dictionary) (t : TableText) (alias name column : List ℕ) → t.alias ≡ Some alias → name ≢ alias → column_named (sources_of d (t ∷ [])) (Some name) column ≡ Err NoColumn }
+{}
+
+/// Each operand of a bound tree is of its type: numbers for arithmetic and signs, truth values for AND, OR and NOT, and comparable ones for
+/// comparisons; and a condition is a truth value.
+pub fn operands_are_of_their_types()
+    ensures operands { (s : Scope) (n : ℕ) (e : Expression) → faults s n e ≡ [] → IsTyped (bound s n e) }
+    ensures condition { (ss : List Source) (c : Expression) → condition_faults ss (c ∷ []) ≡ [] → HasKind Truths (bound_over ss c) }
 {}
