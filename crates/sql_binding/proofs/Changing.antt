@@ -1,5 +1,6 @@
 -- INSERT's tuples, and conjuncts.
 use Rattle.std.proofs.Common.{◌≡◌, ◌≤◌, ◌<◌, ℕ, suc, ◌+◌, Bool, true, false, cond, List, [], ◌∷◌, ◌++◌, length, Option, Some, None, Result, Ok, Err, refl, sym, ap, ◌∙◌, subst, arith}
+use Rattle.std.specs.Prelude.{◌==◌}
 use Rattle.std.proofs.lemmas.Bool.{eq-eqb, false≢true}
 use Rattle.std.proofs.lemmas.List.{append_assoc}
 use Rattle.dby_types.specs.declared.definition.ColumnDef.{ColumnDef}
@@ -8,7 +9,9 @@ use Rattle.sql_ast.specs.declared.bound.Expr.{Expr}
 use Rattle.sql_ast.specs.declared.bound.Node.{Node, Column, Literal, Arithmetic', Negated', Compare', IsNull', Between', In', And', Or', Not'}
 use Rattle.sql_ast.specs.declared.expression.Expression.{Expression}
 use Rattle.sql_ast.specs.declared.statement.Item.{Item}
-use Rattle.sql_binding.specs.Changes.{targets_named, values_from, tuple_trees, tuples_trees, spots_of}
+use Rattle.sql_binding.specs.Changes.{targets_named, item_tree, value_for, values_from, tuple_trees, tuples_trees, spots_of}
+use Rattle.sql_binding.specs.Laws.{classes, AreClassesFrom, places_of, item_trees}
+use Rattle.sql_model.specs.Inserting.{item_for, items_from, in_table_order}
 use Rattle.sql_binding.specs.Expressions.{bound_over, conjuncts_of}
 use Rattle.sql_binding.specs.Names.{Source, Spot}
 use Rattle.sql_binding.specs.Trees.{Tree, conjuncts_in, node_tree, tree_of, trees_of}
@@ -58,3 +61,37 @@ split_alike (Between' deny p a s q b t r c u) ty = refl
 split_alike (In' deny p a s shape members) ty = refl
 split_alike (Or' p a s q b t) ty = refl
 split_alike (Not' p a s) ty = refl
+
+-- ---- the table's order, as the meaning has it
+tail_is : (a b : Tree) (as_ bs : List Tree) → a ∷ as_ ≡ b ∷ bs → (a ≡ b) × (as_ ≡ bs)
+tail_is a b as_ bs h = (cc, cc)
+
+value_alike : (spots : List Spot) (items : List Item) (es : List Expr) (n : ℕ) (c : ColumnDef) → trees_of es ≡ item_trees spots items
+    → tree_of (item_for (places_of spots) es n c) ≡ value_for spots items n c.ty
+value_alike [] items es n c h = refl
+value_alike (s ∷ ss) [] [] n c h = refl
+value_alike (s ∷ ss) [] (e ∷ es) n c h = absurd (cc)
+value_alike (s ∷ ss) (item ∷ items) [] n c h = absurd (cc)
+value_alike (s ∷ ss) (item ∷ items) (e ∷ es) n c h =
+    let both : (tree_of e ≡ item_tree [] s.ty item) × (trees_of es ≡ item_trees ss items) = tail_is (tree_of e) (item_tree [] s.ty item) (trees_of es) (item_trees ss items) h in
+    step (s.place == n) both.0 (value_alike ss items es n c both.1)
+  where
+    step : (b : Bool) → tree_of e ≡ item_tree [] s.ty item → tree_of (item_for (places_of ss) es n c) ≡ value_for ss items n c.ty
+        → tree_of (cond b e (item_for (places_of ss) es n c)) ≡ cond b (item_tree [] s.ty item) (value_for ss items n c.ty)
+    step true here more = here
+    step false here more = more
+
+values_alike : (n : ℕ) (columns : List ColumnDef) (spots : List Spot) (items : List Item) (es : List Expr) → trees_of es ≡ item_trees spots items
+    → trees_of (items_from n columns (places_of spots) es) ≡ values_from n columns spots items
+values_alike n [] spots items es h = refl
+values_alike n (c ∷ cs) spots items es h =
+    ap (λ (t : Tree). t ∷ trees_of (items_from (suc n) cs (places_of spots) es)) (value_alike spots items es n c h)
+    ∙ ap (λ (ts : List Tree). value_for spots items n c.ty ∷ ts) (values_alike (suc n) cs spots items es h)
+
+pub tuple_alike : (columns : List ColumnDef) (spots : List Spot) (items : List Item) (es : List Expr) → trees_of es ≡ item_trees spots items
+    → trees_of (in_table_order columns (places_of spots) es) ≡ tuple_trees columns spots items
+tuple_alike columns spots items es h = values_alike 0 columns spots items es h
+
+pub classes_in_order : AreClassesFrom 0 classes
+classes_in_order =
+    ((refl, (refl, (refl, tt))), ((refl, (refl, (refl, tt))), ((refl, tt), ((refl, (refl, (refl, tt))), ((refl, tt), ((refl, tt), ((refl, tt), ((refl, tt), tt))))))))

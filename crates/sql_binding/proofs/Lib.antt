@@ -4,3 +4,5 @@ pub mod Querying
 pub mod Changing
 pub mod Typing
 pub mod Naming
+pub mod Heading
+pub mod Valuing

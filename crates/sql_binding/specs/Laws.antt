@@ -1,14 +1,20 @@
 -- Words of the laws.
-use Rattle.std.specs.Prelude.{◌≡◌, ◌≤◌, ◌<◌, ℕ, ◌+◌, Bool, true, false, ◌||◌, if◌then◌else◌, List, [], ◌∷◌, ◌++◌, length, Option, Some, None, Result, Ok, Err}
+use Rattle.std.specs.Prelude.{◌≡◌, ◌≤◌, ◌<◌, ℕ, suc, ◌+◌, ◌==◌, Bool, true, false, ◌||◌, if◌then◌else◌, List, [], ◌∷◌, ◌++◌, length, Option, Some, None, Result, Ok, Err}
 use Rattle.std.specs.Str.{bytes_eq}
 use Rattle.dby_types.specs.declared.definition.ColumnDef.{ColumnDef}
 use Rattle.dby_types.specs.declared.state.SqlState.{SqlState}
+use Rattle.dby_types.specs.declared.state.SqlState.TheVariants.{NoTable, NameExists, NothingToDrop, NoColumn, AmbiguousColumn, NotInTarget, ValueCount, NotComparable, NotStorable, WrongOperand, NameTwice, Grouping, SecondPrimaryKey, TooLarge}
 use Rattle.dby_types.specs.declared.value.Ty.{Ty}
 use Rattle.dby_types.specs.declared.value.Ty.TheVariants.{Int}
 use Rattle.dby_types.specs.declared.value.Ty.TheVariants.{Bool as Truths}
 use Rattle.sql_binding.specs.Creating.{columns_at}
 use Rattle.sql_binding.specs.Names.{Source, Spot}
-use Rattle.sql_binding.specs.Types.{same_kind}
+use Rattle.dby_types.specs.declared.value.Value.{Value}
+use Rattle.dby_types.specs.declared.value.Value.TheVariants.{Null}
+use Rattle.sql_ast.specs.declared.statement.Item.{Item}
+use Rattle.sql_binding.specs.Changes.{item_tree}
+use Rattle.sql_binding.specs.Types.{kind_of, same_kind}
+use Rattle.value_compare.specs.Order.{rank}
 use Rattle.sql_binding.specs.Bound.{Shown, Sum, all_rows, sum_of, Groups, Query}
 use Rattle.sql_binding.specs.Order.{class_of}
 use Rattle.sql_binding.specs.Trees.{Tree, Trees, Form, typed, column, literal, arithmetic, negated, compare, is_null, between, in_, and, or, not, none, with, ty_of}
@@ -129,3 +135,43 @@ abbrev mutual
   pub AreTypedBeside : Tree → Trees → Type 0
   AreTypedBeside left none = Unit {0}
   AreTypedBeside left (with a rest) = (IsTyped a × AreComparable left a) × AreTypedBeside left rest
+
+-- a value of a type's kind; NULL is of each
+abbrev pub is_of_kind : Ty → Value → Bool
+is_of_kind ty Null = true
+is_of_kind ty v = rank v == kind_of ty
+
+-- each column of a row is of its type's kind
+abbrev pub HasKinds : List ColumnDef → (ℕ → Value) → Type 0
+HasKinds cs row = (n : ℕ) (c : ColumnDef) → columns_at n cs ≡ c ∷ [] → is_of_kind c.ty (row n) ≡ true
+
+-- ---- classes
+
+-- THE CLASSES of refusals, the earliest first
+abbrev pub classes : List (List SqlState)
+classes =
+    (NoTable ∷ NameExists ∷ NothingToDrop ∷ [])
+    ∷ (NoColumn ∷ AmbiguousColumn ∷ NotInTarget ∷ [])
+    ∷ (ValueCount ∷ [])
+    ∷ (NotComparable ∷ NotStorable ∷ WrongOperand ∷ [])
+    ∷ (NameTwice ∷ [])
+    ∷ (Grouping ∷ [])
+    ∷ (SecondPrimaryKey ∷ [])
+    ∷ (TooLarge ∷ [])
+    ∷ []
+
+abbrev pub AreClassesFrom : ℕ → List (List SqlState) → Type 0
+AreClassesFrom n [] = Unit {0}
+AreClassesFrom n (whys ∷ more) = Each (λ (why : SqlState). class_of why ≡ n) whys × AreClassesFrom (suc n) more
+
+-- ---- tuples of INSERT
+
+abbrev pub places_of : List Spot → List ℕ
+places_of [] = []
+places_of (s ∷ ss) = s.place ∷ places_of ss
+
+-- a tuple's values as they stand in the text, each for its column
+abbrev pub item_trees : List Spot → List Item → List Tree
+item_trees [] items = []
+item_trees (s ∷ ss) [] = []
+item_trees (s ∷ ss) (item ∷ items) = item_tree [] s.ty item ∷ item_trees ss items

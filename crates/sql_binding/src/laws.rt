@@ -5,6 +5,9 @@ ghost use Rattle.dby_types.specs.declared.definition.Dictionary.{Dictionary};
 ghost use Rattle.dby_types.specs.declared.state.SqlState.{SqlState};
 ghost use Rattle.dby_types.specs.declared.state.SqlState.TheVariants.{AmbiguousColumn, NoColumn, NoTable};
 ghost use Rattle.dby_types.specs.declared.value.Ty.TheVariants.{Bool as Truths};
+ghost use Rattle.dby_types.specs.declared.value.Value.{Value};
+ghost use Rattle.expr_model.specs.Expression.{value_of};
+ghost use Rattle.expr_model.specs.declared.evaluated.Evaluated.TheVariants.{Value as Gives};
 ghost use Rattle.sql_ast.specs.declared.bound.Expr.{Expr};
 ghost use Rattle.sql_ast.specs.declared.expression.Expression.{Expression};
 ghost use Rattle.sql_ast.specs.declared.statement.Item.{Item};
@@ -14,18 +17,19 @@ ghost use Rattle.sql_ast.specs.declared.statement.Statement.TheVariants.{Select}
 ghost use Rattle.sql_ast.specs.declared.statement.TableText.{TableText};
 ghost use Rattle.sql_binding.specs.Binding.{all_faults, binding, bound_form};
 ghost use Rattle.sql_binding.specs.Bound.{Bound};
-ghost use Rattle.sql_binding.specs.Changes.{targets, tuples_trees};
+ghost use Rattle.sql_binding.specs.Changes.{targets, tuple_trees, tuples_trees};
 ghost use Rattle.sql_binding.specs.Expressions.{Scope, bound, bound_over, conjuncts_of};
 ghost use Rattle.sql_binding.specs.Faults.{condition_faults, faults, faults_over};
 ghost use Rattle.sql_binding.specs.From.{listed, missing_tables, on_conditions, sources_of, tables_of};
-ghost use Rattle.sql_binding.specs.Laws.{HasItsPlaces, HasKind, IsFirst, IsTyped, IsWithin, Stands, joined_columns, tables_with};
+ghost use Rattle.sql_binding.specs.Laws.{AreClassesFrom, HasItsPlaces, HasKind, HasKinds, IsFirst, IsTyped, IsWithin, Stands, classes, is_of_kind, item_trees, joined_columns, places_of, tables_with};
 ghost use Rattle.sql_binding.specs.Names.{Source, Spot, column_named, width_of};
 ghost use Rattle.sql_binding.specs.Order.{kept_with, refusal_of};
 ghost use Rattle.sql_binding.specs.Queries.{query, query_faults, query_sources};
 ghost use Rattle.sql_binding.specs.Trees.{Tree, conjuncts_in, tree_of, trees_of};
+ghost use Rattle.sql_model.specs.Inserting.{in_table_order};
 ghost use Rattle.sql_model.specs.Where.{conjuncts_of as split_of};
 ghost use Rattle.std.specs.Global.{Box};
-ghost use Rattle.std.specs.Prelude.{◌≡◌, ◌≢◌, ◌≤◌, ◌∷◌, ◌++◌, [], Err, List, None, Ok, Option, Some, length, ℕ};
+ghost use Rattle.std.specs.Prelude.{◌≡◌, ◌≢◌, ◌≤◌, ◌∷◌, ◌++◌, [], Err, List, None, Ok, Option, Some, length, true, ℕ};
 ghost use Rattle.table_model.specs.Tables.{Each};
 
 /// A statement is bound exactly where nothing is wrong with it, and else refused by the first fault of the earliest class: all before it in
@@ -92,4 +96,22 @@ pub fn an_alias_hides_the_name()
 pub fn operands_are_of_their_types()
     ensures operands { (s : Scope) (n : ℕ) (e : Expression) → faults s n e ≡ [] → IsTyped (bound s n e) }
     ensures condition { (ss : List Source) (c : Expression) → condition_faults ss (c ∷ []) ≡ [] → HasKind Truths (bound_over ss c) }
+{}
+
+/// The classes of refusals stand in this order: tables and indexes, columns, numbers of values, types, names that stand twice, aggregates and
+/// columns beside them, a second primary key, limits.
+pub fn classes_stand_in_order()
+    ensures { AreClassesFrom 0 classes }
+{}
+
+/// Whatever a bound expression gives over a row whose columns are of their types' kinds is of its type's kind, or NULL.
+pub fn values_are_of_their_types()
+    ensures { (ss : List Source) (e : Expression) (x : Expr) (row : ℕ → Value) (v : Value) → faults_over ss e ≡ [] → tree_of x ≡ bound_over ss e
+        → HasKinds (joined_columns ss) row → value_of x row ≡ Gives v → is_of_kind x.ty v ≡ true }
+{}
+
+/// A tuple of INSERT is in the table's order as the meaning has it.
+pub fn tuples_are_in_the_tables_order()
+    ensures { (columns : List ColumnDef) (spots : List Spot) (items : List Item) (es : List Expr) → trees_of es ≡ item_trees spots items
+        → trees_of (in_table_order columns (places_of spots) es) ≡ tuple_trees columns spots items }
 {}
