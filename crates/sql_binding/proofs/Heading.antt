@@ -1,8 +1,7 @@
 -- What stands at the head of a bound tree is of its type.
-use Rattle.std.proofs.Common.{◌≡◌, ℕ, ◌+◌, ℤ, pos, Bool, true, false, cond, List, [], ◌∷◌, ◌++◌, Option, Some, None, Result, Ok, Err, refl, sym, ap, ◌∙◌, subst, arith}
+use Rattle.std.proofs.Common.{◌≡◌, ℕ, ◌+◌, ℤ, Bool, true, false, cond, List, [], ◌∷◌, Option, Some, None, Result, Ok, Err, refl, sym, ap, ◌∙◌, arith}
 use Rattle.dby_types.specs.declared.definition.ColumnDef.{ColumnDef}
 use Rattle.dby_types.specs.declared.state.SqlState.{SqlState}
-use Rattle.dby_types.specs.declared.value.Ty.{Ty}
 use Rattle.dby_types.specs.declared.value.Ty.TheVariants.{Int, Big}
 use Rattle.dby_types.specs.declared.value.Ty.TheVariants.{Bool as Truths}
 use Rattle.dby_types.specs.declared.value.Value.TheVariants.{Num}

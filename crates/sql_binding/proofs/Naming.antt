@@ -1,12 +1,11 @@
 -- A name stands for one column of that name.
-use Rattle.std.proofs.Common.{◌≡◌, ◌≤◌, ◌<◌, ℕ, zero, suc, ◌+◌, Bool, true, false, cond, List, [], ◌∷◌, ◌++◌, length, Option, Some, None, Result, Ok, Err, refl, sym, ap, ◌∙◌, subst, arith}
+use Rattle.std.proofs.Common.{◌≡◌, ◌≤◌, ℕ, zero, suc, ◌+◌, Bool, true, false, cond, List, [], ◌∷◌, ◌++◌, length, Option, Some, None, Ok, Err, refl, sym, ap, ◌∙◌, subst, arith}
 use Rattle.std.specs.Prelude.{◌≢◌, ◌||◌}
 use Rattle.std.specs.List.{cons_option}
 use Rattle.std.specs.Str.{bytes_eq}
 use Rattle.std.proofs.lemmas.Slice.Eq.{bytes_eq-Decides}
 use Rattle.dby_types.specs.declared.definition.ColumnDef.{ColumnDef}
 use Rattle.dby_types.specs.declared.definition.Dictionary.{Dictionary}
-use Rattle.dby_types.specs.declared.state.SqlState.{SqlState}
 use Rattle.dby_types.specs.declared.state.SqlState.TheVariants.{NoColumn, AmbiguousColumn}
 use Rattle.sql_ast.specs.declared.statement.TableText.{TableText}
 use Rattle.sql_binding.specs.Creating.{columns_at}
@@ -36,7 +35,7 @@ spots_long : (n : ℕ) (name : List ℕ) (ss : List Source) → length (spots_fr
 spots_long n name [] = refl
 spots_long n name (s ∷ ss) =
     let all : length (spots_from n name (s ∷ ss)) ≡ count (spot_from n name s.columns) + length (spots_from (n + length s.columns) name ss) =
-        cons_long (spot_from n name s.columns) (spots_from (n + length s.columns) name ss) in
+    cons_long (spot_from n name s.columns) (spots_from (n + length s.columns) name ss) in
     let here : count (spot_from n name s.columns) ≡ cond (has_column name s.columns) 1 0 = count_spot n name s.columns in
     let more : length (spots_from (n + length s.columns) name ss) ≡ tables_with name ss = spots_long (n + length s.columns) name ss in
     all ∙ ap (λ (k : ℕ). k + length (spots_from (n + length s.columns) name ss)) here ∙ ap (λ (k : ℕ). cond (has_column name s.columns) 1 0 + k) more
@@ -96,7 +95,7 @@ spot_stands n name (c ∷ cs) spot h = step (bytes_eq name c.name) refl h (spot_
         → (spot_from (suc n) name cs ≡ Some spot → Stands (suc n) cs name spot) → Stands n (c ∷ cs) name spot
     step true e k more =
         subst (λ (s : Spot). Stands n (c ∷ cs) name s) (some_spot _ spot k)
-            (record { index = 0; place_is = omega arith; column = c; there = refl; named = alike name c.name e; ty_is = refl })
+        (record { index = 0; place_is = omega arith; column = c; there = refl; named = alike name c.name e; ty_is = refl })
     step false e k more = one_on n c cs name spot (more k)
 
 front_at : (k : ℕ) (cs ds : List ColumnDef) (c : ColumnDef) → columns_at k cs ≡ c ∷ [] → columns_at k (cs ++ ds) ≡ c ∷ []
@@ -147,8 +146,8 @@ all_stand : (n : ℕ) (name : List ℕ) (ss : List Source) → AllStand n (joine
 all_stand n name [] = tt
 all_stand n name (s ∷ ss) =
     cons_stand n s.columns (joined_columns ss) name (spot_from n name s.columns) (spots_from (n + length s.columns) name ss)
-        (if_stands n name s.columns (spot_from n name s.columns) refl)
-        (all_back n s.columns (joined_columns ss) name (spots_from (n + length s.columns) name ss) (all_stand (n + length s.columns) name ss))
+    (if_stands n name s.columns (spot_from n name s.columns) refl)
+    (all_back n s.columns (joined_columns ss) name (spots_from (n + length s.columns) name ss) (all_stand (n + length s.columns) name ss))
 
 of_stands : (n : ℕ) (table name : List ℕ) (ss : List Source) (spot : Spot) → spot_of n table name ss ≡ Some spot → Stands n (joined_columns ss) name spot
 of_stands n table name [] spot h = absurd (cc)

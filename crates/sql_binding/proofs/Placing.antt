@@ -1,20 +1,18 @@
 -- The columns of a bound tree stand in the row that it is computed of.
-use Rattle.std.proofs.Common.{◌≡◌, ◌≤◌, ◌<◌, ℕ, suc, ◌+◌, Bool, true, false, cond, List, [], ◌∷◌, ◌++◌, length, Option, Some, None, Result, Ok, Err, refl, sym, ap, ◌∙◌, subst, arith}
+use Rattle.std.proofs.Common.{◌≡◌, ◌≤◌, ◌<◌, ℕ, suc, ◌+◌, Bool, true, false, cond, List, [], ◌∷◌, ◌++◌, length, Option, Some, None, Result, Ok, Err, refl, subst, arith}
 use Rattle.std.specs.Prelude.{◌==◌, ◌||◌}
 use Rattle.std.specs.List.{cons_option}
 use Rattle.std.specs.Str.{bytes_eq}
 use Rattle.dby_types.specs.declared.definition.ColumnDef.{ColumnDef}
 use Rattle.dby_types.specs.declared.state.SqlState.{SqlState}
 use Rattle.dby_types.specs.declared.state.SqlState.TheVariants.{Grouping}
-use Rattle.sql_ast.specs.declared.expression.Aggregate.{Aggregate}
 use Rattle.sql_ast.specs.declared.expression.Expression.{Expression, Or', And', Not', Compare', IsNull', Between', In', Add', Multiply', Sign', Number, Text, Truth, Column, ColumnOf, Brackets', CountAll, Call', Row_of-Expression, end_of-Expression, more_of-Expression}
-use Rattle.sql_ast.specs.declared.expression.Sum.{Sum as Sign}
 use Rattle.sql_ast.specs.declared.expression.Sum.TheVariants.{Plus, Minus}
-use Rattle.sql_binding.specs.Expressions.{Scope, over_rows, index_of, place_in, spot_tree, name_tree, bound, bound_in, bound_over, calls, calls_in, conjuncts_of}
-use Rattle.sql_binding.specs.Faults.{unless, operand_faults, pair_faults, is_place, key_faults, name_faults, call_faults, total_faults, as_truth, as_number, beside, faults, faults_in, faults_over, condition_faults}
+use Rattle.sql_binding.specs.Expressions.{Scope, over_rows, index_of, place_in, bound, bound_in, bound_over, calls, calls_in}
+use Rattle.sql_binding.specs.Faults.{unless, is_place, key_faults, name_faults, call_faults, as_truth, as_number, beside, faults, faults_in, faults_over}
 use Rattle.sql_binding.specs.Laws.{IsWithin, AreWithin}
 use Rattle.sql_binding.specs.Names.{Source, Spot, spot_from, spots_from, spot_of, only_one, or_missing, column_named, spot_or, spot_faults, width_of}
-use Rattle.sql_binding.specs.Trees.{Tree, typed, column, and, or, not, arithmetic, negated, compare, is_null, between, in_, literal, conjuncts_in}
+use Rattle.sql_binding.specs.Trees.{Tree}
 use Rattle.table_model.specs.Tables.{Each}
 
 pub left_nil : {X : Type 0} → (xs ys : List X) → xs ++ ys ≡ [] → xs ≡ []
@@ -58,15 +56,15 @@ spots_below : (n : ℕ) (name : List ℕ) (ss : List Source) → Each (IsBelow (
 spots_below n name [] = tt
 spots_below n name (s ∷ ss) =
     joined_below (n + width_of (s ∷ ss)) (spot_from n name s.columns) (spots_from (n + length s.columns) name ss)
-        (further (n + length s.columns) (n + width_of (s ∷ ss)) (spot_from n name s.columns) (omega arith) (spot_below n name s.columns))
-        (each_further (n + length s.columns + width_of ss) (n + width_of (s ∷ ss)) (spots_from (n + length s.columns) name ss) (omega arith) (spots_below (n + length s.columns) name ss))
+    (further (n + length s.columns) (n + width_of (s ∷ ss)) (spot_from n name s.columns) (omega arith) (spot_below n name s.columns))
+    (each_further (n + length s.columns + width_of ss) (n + width_of (s ∷ ss)) (spots_from (n + length s.columns) name ss) (omega arith) (spots_below (n + length s.columns) name ss))
 
 of_below : (n : ℕ) (table name : List ℕ) (ss : List Source) → BelowIf (n + width_of ss) (spot_of n table name ss)
 of_below n table name [] = tt
 of_below n table name (s ∷ ss) =
     step (bytes_eq table s.exposed)
-        (further (n + length s.columns) (n + width_of (s ∷ ss)) (spot_from n name s.columns) (omega arith) (spot_below n name s.columns))
-        (further (n + length s.columns + width_of ss) (n + width_of (s ∷ ss)) (spot_of (n + length s.columns) table name ss) (omega arith) (of_below (n + length s.columns) table name ss))
+    (further (n + length s.columns) (n + width_of (s ∷ ss)) (spot_from n name s.columns) (omega arith) (spot_below n name s.columns))
+    (further (n + length s.columns + width_of ss) (n + width_of (s ∷ ss)) (spot_of (n + length s.columns) table name ss) (omega arith) (of_below (n + length s.columns) table name ss))
   where
     step : (b : Bool) → BelowIf (n + width_of (s ∷ ss)) (spot_from n name s.columns) → BelowIf (n + width_of (s ∷ ss)) (spot_of (n + length s.columns) table name ss)
         → BelowIf (n + width_of (s ∷ ss)) (cond b (spot_from n name s.columns) (spot_of (n + length s.columns) table name ss))
@@ -136,8 +134,8 @@ module _ (s : Scope) (w : ℕ) (has : HasRow (width_of s.sources) s.keys w) wher
   name_within : (table : Option (List ℕ)) (name : List ℕ) → name_faults s table name ≡ [] → place_in s.keys (spot_or (column_named s.sources table name)).place < w
   name_within table name f =
       place_within s.keys (spot_or (column_named s.sources table name)).place (width_of s.sources) w has
-          (found_below (width_of s.sources) (column_named s.sources table name) (named_below s.sources table name) (left_nil (spot_faults (column_named s.sources table name)) _ f))
-          (right_nil (spot_faults (column_named s.sources table name)) _ f)
+      (found_below (width_of s.sources) (column_named s.sources table name) (named_below s.sources table name) (left_nil (spot_faults (column_named s.sources table name)) _ f))
+      (right_nil (spot_faults (column_named s.sources table name)) _ f)
 
   mutual
     pub within : (n : ℕ) (e : Expression) → HasCalls s.keys n (calls e) w → faults s n e ≡ [] → IsWithin w (bound s n e)
@@ -152,13 +150,17 @@ module _ (s : Scope) (w : ℕ) (has : HasRow (width_of s.sources) s.keys w) wher
     within n (Between' deny p a q b u c) r f =
         let low : faults s (n + calls a) b ≡ [] = left_nil _ _ (right_nil (faults s n a) _ (left_nil (faults s n a ++ beside (bound s n a) (faults s (n + calls a) b) (bound s (n + calls a) b)) _ f)) in
         let high : faults s (n + calls a + calls b) c ≡ [] = left_nil _ _ (right_nil (faults s n a ++ beside (bound s n a) (faults s (n + calls a) b) (bound s (n + calls a) b)) _ f) in
-        let rest : HasCalls s.keys (n + calls a) (calls b + calls c) w = calls_right s.keys n (calls a) (calls b + calls c) w r in
-        (within n a (calls_left s.keys n (calls a) (calls b + calls c) w r) (left_nil _ _ (left_nil (faults s n a ++ beside (bound s n a) (faults s (n + calls a) b) (bound s (n + calls a) b)) _ f))
-        , (within (n + calls a) b (calls_left s.keys (n + calls a) (calls b) (calls c) w rest) low
-        , within (n + calls a + calls b) c (calls_right s.keys (n + calls a) (calls b) (calls c) w rest) high))
-    within n (In' deny p a shape members) r f =
-        (within n a (calls_left s.keys n (calls a) (calls_in members) w r) (left_nil _ _ f)
-        , within_in (bound s n a) (n + calls a) members (calls_right s.keys n (calls a) (calls_in members) w r) (right_nil (faults s n a) _ f))
+        let rest : HasCalls s.keys (n + calls a) (calls b + calls c) w = calls_right s.keys n (calls a) (calls b + calls c) w r in (
+          within n a (calls_left s.keys n (calls a) (calls b + calls c) w r) (left_nil _ _ (left_nil (faults s n a ++ beside (bound s n a) (faults s (n + calls a) b) (bound s (n + calls a) b)) _ f)),
+          (
+            within (n + calls a) b (calls_left s.keys (n + calls a) (calls b) (calls c) w rest) low,
+            within (n + calls a + calls b) c (calls_right s.keys (n + calls a) (calls b) (calls c) w rest) high,
+          ),
+        )
+    within n (In' deny p a shape members) r f = (
+      within n a (calls_left s.keys n (calls a) (calls_in members) w r) (left_nil _ _ f),
+      within_in (bound s n a) (n + calls a) members (calls_right s.keys n (calls a) (calls_in members) w r) (right_nil (faults s n a) _ f),
+    )
     within n (Add' op p a q b) r f =
         (within n a (calls_left s.keys n (calls a) (calls b) w r) (left_nil _ _ (left_nil _ _ f)), within (n + calls a) b (calls_right s.keys n (calls a) (calls b) w r) (left_nil _ _ (right_nil (as_number (faults s n a) (bound s n a)) _ f)))
     within n (Multiply' op p a q b) r f =
@@ -176,9 +178,10 @@ module _ (s : Scope) (w : ℕ) (has : HasRow (width_of s.sources) s.keys w) wher
 
     pub within_in : {m : _} → (left : Tree) (n : ℕ) (row : Row_of-Expression m) → HasCalls s.keys n (calls_in row) w → faults_in s left n row ≡ [] → AreWithin w (bound_in s n row)
     within_in left n end_of-Expression r f = tt
-    within_in left n (more_of-Expression e rest) r f =
-        (within n e (calls_left s.keys n (calls e) (calls_in rest) w r) (left_nil _ _ (left_nil _ _ f))
-        , within_in left (n + calls e) rest (calls_right s.keys n (calls e) (calls_in rest) w r) (right_nil (beside left (faults s n e) (bound s n e)) _ f))
+    within_in left n (more_of-Expression e rest) r f = (
+      within n e (calls_left s.keys n (calls e) (calls_in rest) w r) (left_nil _ _ (left_nil _ _ f)),
+      within_in left (n + calls e) rest (calls_right s.keys n (calls e) (calls_in rest) w r) (right_nil (beside left (faults s n e) (bound s n e)) _ f),
+    )
 
 -- over the joined row
 pub within_row : (ss : List Source) (e : Expression) → faults_over ss e ≡ [] → IsWithin (width_of ss) (bound_over ss e)

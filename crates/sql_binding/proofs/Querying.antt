@@ -1,10 +1,8 @@
 -- All places of a bound query are there.
-use Rattle.std.proofs.Common.{◌≡◌, ◌≤◌, ◌<◌, ℕ, suc, ◌+◌, Bool, true, false, List, [], ◌∷◌, ◌++◌, length, Option, Some, None, refl, sym, ap, ◌∙◌, subst, arith}
+use Rattle.std.proofs.Common.{◌≡◌, ◌≤◌, ◌<◌, ℕ, suc, ◌+◌, Bool, true, false, List, [], ◌∷◌, ◌++◌, length, Option, Some, None, refl, arith}
 use Rattle.std.proofs.lemmas.List.{length-append}
 use Rattle.dby_types.specs.declared.definition.ColumnDef.{ColumnDef}
 use Rattle.dby_types.specs.declared.definition.Dictionary.{Dictionary}
-use Rattle.dby_types.specs.declared.state.SqlState.{SqlState}
-use Rattle.dby_types.specs.declared.value.Ty.{Ty}
 use Rattle.sql_ast.specs.declared.expression.Expression.{Expression, Or', And', Not', Compare', IsNull', Between', In', Add', Multiply', Sign', Number, Text, Truth, Column, ColumnOf, Brackets', CountAll, Call', Row_of-Expression, end_of-Expression, more_of-Expression}
 use Rattle.sql_ast.specs.declared.statement.GroupText.{GroupText}
 use Rattle.sql_ast.specs.declared.statement.OutText.{OutText}
@@ -12,12 +10,12 @@ use Rattle.sql_ast.specs.declared.statement.SelectText.{SelectText}
 use Rattle.sql_ast.specs.declared.statement.Shown.{Shown as ShownText}
 use Rattle.sql_ast.specs.declared.statement.Shown.TheVariants.{All, These}
 use Rattle.sql_binding.proofs.Placing.{left_nil, right_nil, HasRow, HasCalls, calls_left, calls_right, place_within, found_below, named_below, within, within_row}
-use Rattle.sql_binding.specs.Bound.{Shown, Sum, all_rows, sum_of, Groups}
-use Rattle.sql_binding.specs.Expressions.{Scope, over_rows, bound, bound_over, calls, calls_in, conjuncts_of, place_in}
-use Rattle.sql_binding.specs.Faults.{faults, faults_in, faults_over, beside, as_truth, as_number, key_faults, call_faults, condition_faults, operand_faults}
+use Rattle.sql_binding.specs.Bound.{Sum, Groups}
+use Rattle.sql_binding.specs.Expressions.{Scope, over_rows, bound, bound_over, calls, calls_in, conjuncts_of}
+use Rattle.sql_binding.specs.Faults.{faults, faults_in, faults_over, beside, as_truth, as_number, key_faults, call_faults, condition_faults}
 use Rattle.sql_binding.specs.From.{missing_tables, tables_of}
 use Rattle.sql_binding.specs.Laws.{IsWithin, IsSumWithin, IsShownWithin, AreGroupsWithin, base_width, HasItsPlaces}
-use Rattle.sql_binding.specs.Names.{Source, column_named, spot_or, spot_faults, width_of}
+use Rattle.sql_binding.specs.Names.{Source, column_named, spot_faults, width_of}
 use Rattle.sql_binding.specs.Queries.{items_of, calls_of, is_grouped, key_places, group_faults, keys_if, query_sources, keys_of, shown_items, item_faults, shown_columns, shown_tables, column_faults, all_faults, shown_by, shown_faults, sums_in, sums_in_row, sums_of, groups_if, conditions_of, query_scope, query, later_faults, query_faults, is_empty}
 use Rattle.sql_binding.specs.Trees.{Tree, typed, column, literal, arithmetic, negated, compare, is_null, between, in_, and, or, not, conjuncts_in}
 use Rattle.table_model.specs.Tables.{Each}
@@ -44,8 +42,8 @@ pub conjuncts_within : (ss : List Source) (cs : List Expression) → condition_f
 conjuncts_within ss [] f = tt
 conjuncts_within ss (c ∷ cs) f =
     each_append (IsWithin (width_of ss)) (conjuncts_in (bound_over ss c)) (conjuncts_of ss cs)
-        (split_within (width_of ss) (bound_over ss c) (within_row ss c (left_nil _ _ (left_nil _ _ f))))
-        (conjuncts_within ss cs (right_nil (as_truth (faults_over ss c) (bound_over ss c)) _ f))
+    (split_within (width_of ss) (bound_over ss c) (within_row ss c (left_nil _ _ (left_nil _ _ f))))
+    (conjuncts_within ss cs (right_nil (as_truth (faults_over ss c) (bound_over ss c)) _ f))
 
 -- ---- aggregates
 both_long : (xs ys : List Sum) (m n : ℕ) → length xs ≡ m → length ys ≡ n → length (xs ++ ys) ≡ m + n
@@ -121,8 +119,8 @@ module _ (ss : List Source) (keys : Option (List ℕ)) where
     sums_within n (Between' deny p a q b r c) f =
         let front : faults scope n a ++ beside (bound scope n a) (faults scope (n + calls a) b) (bound scope (n + calls a) b) ≡ [] = left_nil (faults scope n a ++ beside (bound scope n a) (faults scope (n + calls a) b) (bound scope (n + calls a) b)) _ f in
         two (sums_in ss a) (sums_in ss b ++ sums_in ss c) (sums_within n a (left_nil _ _ front))
-            (two (sums_in ss b) (sums_in ss c) (sums_within (n + calls a) b (left_nil _ _ (right_nil (faults scope n a) _ front)))
-                (sums_within (n + calls a + calls b) c (left_nil _ _ (right_nil (faults scope n a ++ beside (bound scope n a) (faults scope (n + calls a) b) (bound scope (n + calls a) b)) _ f))))
+        (two (sums_in ss b) (sums_in ss c) (sums_within (n + calls a) b (left_nil _ _ (right_nil (faults scope n a) _ front)))
+        (sums_within (n + calls a + calls b) c (left_nil _ _ (right_nil (faults scope n a ++ beside (bound scope n a) (faults scope (n + calls a) b) (bound scope (n + calls a) b)) _ f))))
     sums_within n (In' deny p a shape members) f =
         two (sums_in ss a) (sums_in_row ss members) (sums_within n a (left_nil _ _ f)) (row_within (bound scope n a) (n + calls a) members (right_nil (faults scope n a) _ f))
     sums_within n (Add' op p a q b) f =
@@ -143,7 +141,7 @@ module _ (ss : List Source) (keys : Option (List ℕ)) where
     row_within left n end_of-Expression f = tt
     row_within left n (more_of-Expression e rest) f =
         two (sums_in ss e) (sums_in_row ss rest) (sums_within n e (left_nil _ _ (left_nil _ _ f)))
-            (row_within left (n + calls e) rest (right_nil (beside left (faults scope n e) (bound scope n e)) _ f))
+        (row_within left (n + calls e) rest (right_nil (beside left (faults scope n e) (bound scope n e)) _ f))
 
   items_fine : (n : ℕ) (os : List OutText) → item_faults scope n os ≡ [] → Fine (sums_of ss os)
   items_fine n [] f = tt
@@ -158,9 +156,10 @@ module _ (ss : List Source) (keys : Option (List ℕ)) where
   module _ (w : ℕ) (has : HasRow (width_of ss) keys w) where
     items_within : (n position : ℕ) (os : List OutText) → HasCalls keys n (calls_of os) w → item_faults scope n os ≡ [] → Each (IsShownWithin w) (shown_items scope n position os)
     items_within n position [] r f = tt
-    items_within n position (o ∷ os) r f =
-        (within scope w has n o.expression (calls_left keys n (calls o.expression) (calls_of os) w r) (left_nil _ _ f)
-        , items_within (n + calls o.expression) (suc position) os (calls_right keys n (calls o.expression) (calls_of os) w r) (right_nil (faults scope n o.expression) _ f))
+    items_within n position (o ∷ os) r f = (
+      within scope w has n o.expression (calls_left keys n (calls o.expression) (calls_of os) w r) (left_nil _ _ f),
+      items_within (n + calls o.expression) (suc position) os (calls_right keys n (calls o.expression) (calls_of os) w r) (right_nil (faults scope n o.expression) _ f),
+    )
 
     columns_within : (n : ℕ) (cs : List ColumnDef) → n + length cs ≤ width_of ss → column_faults keys n cs ≡ [] → Each (IsShownWithin w) (shown_columns scope n cs)
     columns_within n [] r f = tt
@@ -171,8 +170,8 @@ module _ (ss : List Source) (keys : Option (List ℕ)) where
     tables_within n [] r f = tt
     tables_within n (t ∷ ts) r f =
         each_append (IsShownWithin w) (shown_columns scope n t.columns) (shown_tables scope (n + length t.columns) ts)
-            (columns_within n t.columns (omega arith) (left_nil _ _ f))
-            (tables_within (n + length t.columns) ts (omega arith) (right_nil (column_faults keys n t.columns) _ f))
+        (columns_within n t.columns (omega arith) (left_nil _ _ f))
+        (tables_within (n + length t.columns) ts (omega arith) (right_nil (column_faults keys n t.columns) _ f))
 
     shown_within : (n : ℕ) (text : ShownText) → HasCalls keys n (calls_of (items_of text)) w → shown_faults scope n text ≡ [] → Each (IsShownWithin w) (shown_by scope n text)
     shown_within n All r f = tables_within 0 ss (omega arith) f
@@ -180,9 +179,10 @@ module _ (ss : List Source) (keys : Option (List ℕ)) where
 
 keys_within : (ss : List Source) (gs : List GroupText) → group_faults ss gs ≡ [] → Each (λ (n : ℕ). n < width_of ss) (key_places ss gs)
 keys_within ss [] f = tt
-keys_within ss (g ∷ gs) f =
-    (found_below (width_of ss) (column_named ss g.table g.column) (named_below ss g.table g.column) (left_nil _ _ f)
-    , keys_within ss gs (right_nil (spot_faults (column_named ss g.table g.column)) _ f))
+keys_within ss (g ∷ gs) f = (
+  found_below (width_of ss) (column_named ss g.table g.column) (named_below ss g.table g.column) (left_nil _ _ f),
+  keys_within ss gs (right_nil (spot_faults (column_named ss g.table g.column)) _ f),
+)
 
 abbrev groups_with : List Source → List ℕ → Bool → ShownText → Groups
 groups_with ss keys whole text = record { whole = whole; keys = keys; sums = sums_of ss (items_of text) }
@@ -205,7 +205,8 @@ query_places d q f =
     let shown : shown_faults (query_scope d q) (length (keys_of d q)) q.shown ≡ [] = left_nil _ _ later in
     let rest : condition_faults (query_sources d q) (conditions_of q) ++ _ ≡ [] = right_nil (shown_faults (query_scope d q) (length (keys_of d q)) q.shown) _ later in
     let groups : group_faults (query_sources d q) q.group ≡ [] = left_nil _ _ (right_nil (condition_faults (query_sources d q) (conditions_of q)) _ rest) in
-    record
-    { conjuncts = conjuncts_within (query_sources d q) (conditions_of q) (left_nil _ _ rest)
-    ; groups = groups_within (is_grouped q) (query_sources d q) (keys_of d q) (is_empty q.group) q.shown (keys_within (query_sources d q) q.group groups) shown
-    ; shown = outs_within (is_grouped q) (query_sources d q) (keys_of d q) (is_empty q.group) q.shown shown }
+    record {
+      conjuncts = conjuncts_within (query_sources d q) (conditions_of q) (left_nil _ _ rest);
+      groups = groups_within (is_grouped q) (query_sources d q) (keys_of d q) (is_empty q.group) q.shown (keys_within (query_sources d q) q.group groups) shown;
+      shown = outs_within (is_grouped q) (query_sources d q) (keys_of d q) (is_empty q.group) q.shown shown;
+    }

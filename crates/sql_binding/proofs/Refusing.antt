@@ -1,10 +1,10 @@
 -- The one refusal is the first of the earliest class.
-use Rattle.std.proofs.Common.{◌≡◌, ◌≤◌, ◌<◌, ℕ, Bool, true, false, cond, List, [], ◌∷◌, ◌++◌, Option, Some, None, Result, Ok, Err, refl, sym, ap, ◌∙◌, subst, ◌⊎◌, inl, inr, arith}
+use Rattle.std.proofs.Common.{◌≡◌, ◌≤◌, ◌<◌, Bool, true, false, cond, List, [], ◌∷◌, ◌++◌, Option, Some, None, Ok, Err, refl, sym, ap, ◌∙◌, subst, ◌⊎◌, inl, inr, arith}
 use Rattle.std.specs.Prelude.{nat_lt, ◌≢◌}
 use Rattle.std.specs.Global.{Box}
 use Rattle.std.proofs.lemmas.Bool.Decides.{nat_tests}
 use Rattle.dby_types.specs.declared.state.SqlState.{SqlState}
-use Rattle.sql_binding.specs.Laws.{IsFirst, IsNotBefore, IsBehind}
+use Rattle.sql_binding.specs.Laws.{IsFirst, IsNotBefore}
 use Rattle.dby_types.specs.declared.definition.Dictionary.{Dictionary}
 use Rattle.dby_types.specs.declared.definition.TableDef.{TableDef}
 use Rattle.dby_types.specs.declared.state.SqlState.TheVariants.{NoTable}

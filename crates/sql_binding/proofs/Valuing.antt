@@ -1,10 +1,9 @@
 -- A bound expression has only values of its type.
-use Rattle.std.proofs.Common.{◌≡◌, ℕ, suc, ℤ, pos, ◌+◌, Bool, true, false, cond, List, [], ◌∷◌, ◌++◌, Option, Some, None, Result, Ok, Err, refl, sym, ap, ◌∙◌, subst, arith}
-use Rattle.std.specs.Prelude.{◌==◌, ◌+ℤ◌, ◌-ℤ◌, ◌*ℤ◌, neg_ℤ, int_div}
+use Rattle.std.proofs.Common.{◌≡◌, ℕ, ℤ, pos, Bool, true, false, cond, List, Option, Some, None, refl, sym, subst}
+use Rattle.std.specs.Prelude.{◌+ℤ◌, ◌-ℤ◌, ◌*ℤ◌, neg_ℤ, int_div}
 use Rattle.std.specs.Ordering.{int_eq}
 use Rattle.std.specs.declared.cmp.Ordering.{Ordering}
 use Rattle.dby_types.specs.declared.definition.ColumnDef.{ColumnDef}
-use Rattle.dby_types.specs.declared.state.SqlState.{SqlState}
 use Rattle.dby_types.specs.declared.state.SqlState.TheVariants.{OutOfRange, DivisionByZero}
 use Rattle.dby_types.specs.declared.value.Ty.{Ty}
 use Rattle.dby_types.specs.declared.value.Ty.TheVariants.{Small, Int, Big}
@@ -24,7 +23,6 @@ use Rattle.sql_ast.specs.declared.expression.Comparison.{Comparison}
 use Rattle.sql_ast.specs.declared.expression.Comparison.TheVariants.{Equal, LessEqual, GreaterEqual}
 use Rattle.sql_binding.proofs.Heading.{HeadFits}
 use Rattle.sql_binding.specs.Laws.{is_of_kind, HasKinds}
-use Rattle.sql_binding.specs.Creating.{columns_at}
 use Rattle.sql_binding.specs.Trees.{node_tree}
 use Rattle.value_compare.specs.Logic.{and_of, or_of, not_of, is_null}
 use Rattle.value_compare.specs.Order.{compared}
@@ -192,16 +190,16 @@ node_kind cs row has (Negated' p a s) ty h = value_kind ty (node_value a s row) 
 node_kind cs row has (Compare' op p a s q b t) ty h = as_truth_kind ty (compared_values op (node_value a s row) (node_value b t row)) h (compared_truth op (node_value a s row) (node_value b t row))
 node_kind cs row has (IsNull' deny p a s) ty h =
     as_truth_kind ty (node_value (IsNull' deny p a s) Truths row) h
-        (value_kind Truths (node_value a s row) (λ x. Gives (denied deny (Truth (is_null x)))) (λ x. denied_truth deny (Truth (is_null x)) refl))
+    (value_kind Truths (node_value a s row) (λ x. Gives (denied deny (Truth (is_null x)))) (λ x. denied_truth deny (Truth (is_null x)) refl))
 node_kind cs row has (Between' deny p a s q b t r c u) ty h =
     as_truth_kind ty (node_value (Between' deny p a s q b t r c u) Truths row) h
-        (part_kind Truths (and_values (compared_values GreaterEqual (node_value a s row) (node_value b t row)) (compared_values LessEqual (node_value a s row) (node_value c u row)))
-            (λ x. Gives (denied deny x)) (ands_truth (compared_values GreaterEqual (node_value a s row) (node_value b t row)) (compared_values LessEqual (node_value a s row) (node_value c u row)))
-            (λ x k. denied_truth deny x k))
+    (part_kind Truths (and_values (compared_values GreaterEqual (node_value a s row) (node_value b t row)) (compared_values LessEqual (node_value a s row) (node_value c u row)))
+    (λ x. Gives (denied deny x)) (ands_truth (compared_values GreaterEqual (node_value a s row) (node_value b t row)) (compared_values LessEqual (node_value a s row) (node_value c u row)))
+    (λ x k. denied_truth deny x k))
 node_kind cs row has (In' deny p a s shape members) ty h =
     as_truth_kind ty (node_value (In' deny p a s shape members) Truths row) h
-        (value_kind Truths (node_value a s row) (λ x. on_value (any_equal (Gives (Truth false)) x members row) (λ found. Gives (denied deny found)))
-            (λ x. part_kind Truths (any_equal (Gives (Truth false)) x members row) (λ found. Gives (denied deny found)) (found_truth (Gives (Truth false)) x members row refl) (λ found k. denied_truth deny found k)))
+    (value_kind Truths (node_value a s row) (λ x. on_value (any_equal (Gives (Truth false)) x members row) (λ found. Gives (denied deny found)))
+    (λ x. part_kind Truths (any_equal (Gives (Truth false)) x members row) (λ found. Gives (denied deny found)) (found_truth (Gives (Truth false)) x members row refl) (λ found k. denied_truth deny found k)))
 node_kind cs row has (And' p a s q b t) ty h = as_truth_kind ty (and_values (node_value a s row) (node_value b t row)) h (ands_truth (node_value a s row) (node_value b t row))
 node_kind cs row has (Or' p a s q b t) ty h = as_truth_kind ty (or_values (node_value a s row) (node_value b t row)) h (ors_truth (node_value a s row) (node_value b t row))
 node_kind cs row has (Not' p a s) ty h =

@@ -1,7 +1,5 @@
 -- BINDING: a statement's tree and a dictionary give a bound statement, or one refusal.
-use Rattle.std.specs.Prelude.{ℕ, List, [], ◌∷◌, ◌++◌, length, Option, Some, None, Result, Ok, Err}
-use Rattle.std.specs.Global.{Box}
-use Rattle.dby_types.specs.declared.definition.ColumnDef.{ColumnDef}
+use Rattle.std.specs.Prelude.{ℕ, List, [], ◌∷◌, ◌++◌, Option, Result}
 use Rattle.dby_types.specs.declared.definition.Dictionary.{Dictionary}
 use Rattle.dby_types.specs.declared.definition.TableDef.{TableDef}
 use Rattle.dby_types.specs.declared.state.SqlState.{SqlState}

@@ -1,6 +1,5 @@
 -- Bound statements with trees alone: what a bound statement in code says.
 use Rattle.std.specs.Prelude.{ℕ, Bool, List, [], ◌∷◌, map, Option, Some, None}
-use Rattle.std.specs.Global.{Box}
 use Rattle.dby_types.specs.declared.definition.ColumnDef.{ColumnDef}
 use Rattle.dby_types.specs.declared.number.Level.{Level}
 use Rattle.sql_ast.specs.declared.bound.BoundKey.{BoundKey}
@@ -8,7 +7,6 @@ use Rattle.sql_ast.specs.declared.bound.BoundSelect.{BoundSelect}
 use Rattle.sql_ast.specs.declared.bound.BoundSet.{BoundSet}
 use Rattle.sql_ast.specs.declared.bound.BoundStatement.{BoundStatement}
 use Rattle.sql_ast.specs.declared.bound.BoundStatement.TheVariants.{CreateTable, CreateIndex, Drop, Insert, Update, Delete, Select, LockTable, SetIsolation, Autocommit, Commit, Rollback}
-use Rattle.sql_ast.specs.declared.bound.Expr.{Expr}
 use Rattle.sql_ast.specs.declared.bound.Grouping.{Grouping}
 use Rattle.sql_ast.specs.declared.bound.OrderKey.{OrderKey}
 use Rattle.sql_ast.specs.declared.bound.Out.{Out}
@@ -76,9 +74,14 @@ puts_of [] = []
 puts_of (s ∷ ss) = record { column = s.column; tree = tree_of s.value } ∷ puts_of ss
 
 abbrev pub query_of : BoundSelect → Query
-query_of q = record
-    { distinct = q.distinct; shown = shown_of q.outs; tables = q.tables; conjuncts = trees_of q.conjuncts
-    ; groups = groups_in q.grouping; order = q.order }
+query_of q = record {
+  distinct = q.distinct;
+  shown = shown_of q.outs;
+  tables = q.tables;
+  conjuncts = trees_of q.conjuncts;
+  groups = groups_in q.grouping;
+  order = q.order;
+}
 
 -- WHAT A BOUND STATEMENT SAYS
 abbrev pub seen : BoundStatement → Bound

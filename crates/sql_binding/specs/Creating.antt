@@ -1,10 +1,9 @@
 -- CREATE TABLE, CREATE INDEX, DROP and LOCK TABLE.
-use Rattle.std.specs.Prelude.{ℕ, zero, suc, ◌+◌, nat_le, Bool, true, false, not, ◌||◌, if◌then◌else◌, List, [], ◌∷◌, ◌++◌, length, Option, Some, None}
+use Rattle.std.specs.Prelude.{ℕ, zero, suc, ◌+◌, nat_le, Bool, true, false, ◌||◌, if◌then◌else◌, List, [], ◌∷◌, ◌++◌, length, Option, Some, None}
 use Rattle.std.specs.Str.{bytes_eq}
 use Rattle.dby_types.specs.declared.definition.ColumnDef.{ColumnDef}
 use Rattle.dby_types.specs.declared.definition.Dictionary.{Dictionary}
 use Rattle.dby_types.specs.declared.definition.IndexDef.{IndexDef}
-use Rattle.dby_types.specs.declared.definition.TableDef.{TableDef}
 use Rattle.dby_types.specs.declared.state.SqlState.{SqlState}
 use Rattle.dby_types.specs.declared.state.SqlState.TheVariants.{NoColumn, NameExists, NothingToDrop, SecondPrimaryKey}
 use Rattle.row_codec.specs.StoredRow.{row_len}
@@ -18,8 +17,8 @@ use Rattle.sql_ast.specs.declared.statement.TablePart.{TablePart}
 use Rattle.sql_ast.specs.declared.statement.TablePart.TheVariants.{Column, PrimaryKey, Unique}
 use Rattle.sql_binding.specs.Changes.{target_of, target_or}
 use Rattle.sql_binding.specs.Faults.{unless}
-use Rattle.sql_binding.specs.From.{columns_of, number_of, found_in, twice_faults, limit_faults}
-use Rattle.sql_binding.specs.Names.{Spot, is_named, spot_from}
+use Rattle.sql_binding.specs.From.{number_of, found_in, twice_faults, limit_faults}
+use Rattle.sql_binding.specs.Names.{Spot, is_named}
 
 -- ---- the columns of a new table
 

@@ -1,5 +1,5 @@
 -- What is wrong with an expression.
-use Rattle.std.specs.Prelude.{ℕ, ◌+◌, Bool, true, false, if◌then◌else◌, ◌==◌, ◌||◌, List, [], ◌∷◌, ◌++◌, Option, Some, None}
+use Rattle.std.specs.Prelude.{ℕ, ◌+◌, Bool, true, false, ◌==◌, ◌||◌, List, [], ◌∷◌, ◌++◌, Option, Some, None}
 use Rattle.dby_types.specs.declared.state.SqlState.{SqlState}
 use Rattle.dby_types.specs.declared.state.SqlState.TheVariants.{NotComparable, WrongOperand, Grouping}
 use Rattle.dby_types.specs.declared.value.Ty.{Ty}
@@ -9,7 +9,7 @@ use Rattle.sql_ast.specs.declared.expression.Aggregate.{Aggregate}
 use Rattle.sql_ast.specs.declared.expression.Aggregate.TheVariants.{Count, Sum, Min, Max}
 use Rattle.sql_ast.specs.declared.expression.Expression.{Expression, Or', And', Not', Compare', IsNull', Between', In', Add', Multiply', Sign', Number, Text, Truth, Column, ColumnOf, Brackets', CountAll, Call', Row_of-Expression, end_of-Expression, more_of-Expression}
 use Rattle.sql_binding.specs.Expressions.{Scope, over_rows, bound, bound_over, calls}
-use Rattle.sql_binding.specs.Names.{Source, Spot, column_named, spot_or, spot_faults}
+use Rattle.sql_binding.specs.Names.{Source, column_named, spot_or, spot_faults}
 use Rattle.sql_binding.specs.Trees.{Tree, ty_of}
 use Rattle.sql_binding.specs.Types.{same_kind}
 

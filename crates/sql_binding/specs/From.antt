@@ -1,5 +1,5 @@
 -- FROM: its tables, and the conditions of a query.
-use Rattle.std.specs.Prelude.{ℕ, nat_le, List, [], ◌∷◌, ◌++◌, length, Bool, not, Option, Some, None}
+use Rattle.std.specs.Prelude.{ℕ, nat_le, List, [], ◌∷◌, ◌++◌, not, Option, Some, None}
 use Rattle.dby_types.specs.declared.definition.ColumnDef.{ColumnDef}
 use Rattle.dby_types.specs.declared.definition.Dictionary.{Dictionary}
 use Rattle.dby_types.specs.declared.definition.TableDef.{TableDef}

@@ -1,8 +1,7 @@
 -- The order of refusals.
-use Rattle.std.specs.Prelude.{◌≡◌, ◌≤◌, ◌<◌, ℕ, nat_lt, if◌then◌else◌, List, [], ◌∷◌, ◌++◌, Option, Some, None, Result, Ok, Err}
+use Rattle.std.specs.Prelude.{ℕ, nat_lt, if◌then◌else◌, List, [], ◌∷◌, Option, Some, None, Result, Ok, Err}
 use Rattle.dby_types.specs.declared.state.SqlState.{SqlState}
 use Rattle.dby_types.specs.declared.state.SqlState.TheVariants.{NoTable, NameExists, NothingToDrop, NoColumn, AmbiguousColumn, NotInTarget, ValueCount, NotComparable, NotStorable, WrongOperand, NameTwice, Grouping, SecondPrimaryKey, TooLarge}
-use Rattle.table_model.specs.Tables.{Each}
 
 -- THE CLASS of a refusal, the earliest first: tables and indexes, columns, numbers of values, types, names that stand twice, aggregates, primary
 -- keys, limits

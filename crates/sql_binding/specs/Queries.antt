@@ -17,10 +17,10 @@ use Rattle.sql_ast.specs.declared.statement.SelectText.{SelectText}
 use Rattle.sql_ast.specs.declared.statement.Shown.{Shown as ShownText}
 use Rattle.sql_ast.specs.declared.statement.Shown.TheVariants.{All, These}
 use Rattle.sql_binding.specs.Bound.{Shown, Sum, all_rows, sum_of, Groups, Query}
-use Rattle.sql_binding.specs.Expressions.{Scope, over_rows, spot_tree, bound, bound_over, calls, conjuncts_of}
+use Rattle.sql_binding.specs.Expressions.{Scope, spot_tree, bound, bound_over, calls, conjuncts_of}
 use Rattle.sql_binding.specs.Faults.{faults, key_faults, condition_faults}
 use Rattle.sql_binding.specs.From.{tables_of, on_conditions, listed, sources_of, numbers_of, missing_tables, exposed_names, twice_faults, limit_faults}
-use Rattle.sql_binding.specs.Names.{Source, Spot, column_named, spot_or, spot_faults}
+use Rattle.sql_binding.specs.Names.{Source, column_named, spot_or, spot_faults}
 
 -- the select items; `*` has none of its own
 abbrev pub items_of : ShownText → List OutText
@@ -190,13 +190,14 @@ shown_in d q = shown_by (query_scope d q) (length (keys_of d q)) q.shown
 
 -- A BOUND QUERY
 abbrev pub query : Dictionary → SelectText → Query
-query d q = record
-    { distinct = q.distinct
-    ; shown = shown_in d q
-    ; tables = numbers_of d (tables_of q.from)
-    ; conjuncts = conjuncts_of (query_sources d q) (conditions_of q)
-    ; groups = groups_if (is_grouped q) (record { whole = is_empty q.group; keys = keys_of d q; sums = sums_of (query_sources d q) (items_of q.shown) })
-    ; order = order_of (shown_in d q) q.order }
+query d q = record {
+  distinct = q.distinct;
+  shown = shown_in d q;
+  tables = numbers_of d (tables_of q.from);
+  conjuncts = conjuncts_of (query_sources d q) (conditions_of q);
+  groups = groups_if (is_grouped q) (record { whole = is_empty q.group; keys = keys_of d q; sums = sums_of (query_sources d q) (items_of q.shown) });
+  order = order_of (shown_in d q) q.order;
+}
 
 -- what is wrong behind the tables' names
 abbrev pub later_faults : Dictionary → SelectText → List SqlState

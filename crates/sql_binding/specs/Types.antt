@@ -1,5 +1,5 @@
 -- The types of expressions.
-use Rattle.std.specs.Prelude.{ℕ, ℤ, pos, neg_ℤ, min, nat_le, List, length, Bool, true, false, ◌==◌, ◌||◌, if◌then◌else◌}
+use Rattle.std.specs.Prelude.{ℕ, ℤ, pos, neg_ℤ, min, List, length, Bool, true, false, ◌==◌, ◌||◌, if◌then◌else◌}
 use Rattle.dby_types.specs.declared.value.Ty.{Ty}
 use Rattle.dby_types.specs.declared.value.Ty.TheVariants.{Small, Int, Big}
 use Rattle.dby_types.specs.declared.value.Ty.TheVariants.{Bool as Truths, Text as Varchar}

@@ -4,6 +4,7 @@ use Rattle.sql_binding.specs.From.{on_conditions, listed}
 use Rattle.sql_binding.specs.Queries.{query_sources}
 
 pub returns : goal.returns
-returns c = record
-    { order = λ d q. conjuncts_append (query_sources d q) (on_conditions q.from) (listed q.condition)
-    ; split = λ e. split_alike e.node e.ty }
+returns c = record {
+  order = λ d q. conjuncts_append (query_sources d q) (on_conditions q.from) (listed q.condition);
+  split = λ e. split_alike e.node e.ty;
+}
