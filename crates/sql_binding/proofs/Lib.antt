@@ -6,3 +6,4 @@ pub mod Typing
 pub mod Naming
 pub mod Heading
 pub mod Valuing
+pub mod Signing

@@ -1,6 +1,15 @@
 -- All places of a bound query are there.
-use Rattle.std.proofs.Common.{◌≡◌, ◌≤◌, ◌<◌, ℕ, suc, ◌+◌, Bool, true, false, List, [], ◌∷◌, ◌++◌, length, Option, Some, None, refl, arith}
+use Rattle.std.proofs.Common.{◌≡◌, ◌≤◌, ◌<◌, ℕ, suc, ◌+◌, Bool, true, false, cond, List, [], ◌∷◌, ◌++◌, length, Option, Some, None, refl, arith}
 use Rattle.std.proofs.lemmas.List.{length-append}
+use Rattle.std.specs.Prelude.{nat_le, ◌-◌, ◌&&◌}
+use Rattle.std.specs.Str.{bytes_eq}
+use Rattle.std.proofs.lemmas.Bool.{and_parts}
+use Rattle.std.proofs.lemmas.Bool.Decides.{nat_tests}
+use Rattle.sql_ast.specs.declared.bound.OrderKey.{OrderKey}
+use Rattle.sql_ast.specs.declared.statement.OrderBy.{OrderBy}
+use Rattle.sql_ast.specs.declared.statement.OrderBy.TheVariants.{Name, Position}
+use Rattle.sql_ast.specs.declared.statement.OrderText.{OrderText}
+use Rattle.sql_binding.specs.Queries.{behind_one, place_named, place_at, order_place, order_faults_of, or_first, order_of, order_faults, shown_in}
 use Rattle.dby_types.specs.declared.definition.ColumnDef.{ColumnDef}
 use Rattle.dby_types.specs.declared.definition.Dictionary.{Dictionary}
 use Rattle.sql_ast.specs.declared.expression.Expression.{Expression, Or', And', Not', Compare', IsNull', Between', In', Add', Multiply', Sign', Number, Text, Truth, Column, ColumnOf, Brackets', CountAll, Call', Row_of-Expression, end_of-Expression, more_of-Expression}
@@ -10,7 +19,7 @@ use Rattle.sql_ast.specs.declared.statement.SelectText.{SelectText}
 use Rattle.sql_ast.specs.declared.statement.Shown.{Shown as ShownText}
 use Rattle.sql_ast.specs.declared.statement.Shown.TheVariants.{All, These}
 use Rattle.sql_binding.proofs.Placing.{left_nil, right_nil, HasRow, HasCalls, calls_left, calls_right, place_within, found_below, named_below, within, within_row}
-use Rattle.sql_binding.specs.Bound.{Sum, Groups}
+use Rattle.sql_binding.specs.Bound.{Shown, Sum, Groups}
 use Rattle.sql_binding.specs.Expressions.{Scope, over_rows, bound, bound_over, calls, calls_in, conjuncts_of}
 use Rattle.sql_binding.specs.Faults.{faults, faults_in, faults_over, beside, as_truth, as_number, key_faults, call_faults, condition_faults}
 use Rattle.sql_binding.specs.From.{missing_tables, tables_of}
@@ -199,14 +208,55 @@ outs_within true ss keys whole text f =
     shown_within ss (Some keys) (length keys + length (sums_of ss (items_of text))) (omega arith) (length keys) text (omega arith) f
 outs_within false ss keys whole text f = shown_within ss None (width_of ss) (omega arith) (length keys) text tt f
 
+-- ---- ORDER BY
+abbrev BelowIf : ℕ → Option ℕ → Type 0
+BelowIf w None = Unit {0}
+BelowIf w (Some n) = n < w
+
+named_below_len : (name : List ℕ) (ss : List Shown) → BelowIf (length ss) (place_named name ss)
+named_below_len name [] = tt
+named_below_len name (s ∷ ss) = step (bytes_eq name s.name) (place_named name ss) (named_below_len name ss)
+  where
+    step : (b : Bool) (o : Option ℕ) → BelowIf (length ss) o → BelowIf (length (s ∷ ss)) (cond b (Some 0) (behind_one o))
+    step true o h = omega arith
+    step false None h = tt
+    step false (Some n) h = omega arith
+
+position_below : (n count : ℕ) → BelowIf count (place_at n count)
+position_below n count = step (nat_le 1 n && nat_le n count) refl
+  where
+    step : (b : Bool) → (nat_le 1 n && nat_le n count) ≡ b → BelowIf count (cond b (Some (n - 1)) None)
+    step true e =
+        let parts : (nat_le 1 n ≡ true) × (nat_le n count ≡ true) = and_parts (nat_le 1 n) (nat_le n count) e in
+        let low : nat_le 1 n ≡ true = parts.0 in
+        let high : nat_le n count ≡ true = parts.1 in
+        grind (arith, nat_tests)
+    step false e = tt
+
+key_below : (shown : List Shown) (by : OrderBy) → BelowIf (length shown) (order_place shown by)
+key_below shown (Name name) = named_below_len name shown
+key_below shown (Position n) = position_below n (length shown)
+
+first_below : (w : ℕ) (o : Option ℕ) → BelowIf w o → order_faults_of o ≡ [] → or_first o < w
+first_below w None h f = absurd (cc)
+first_below w (Some n) h f = h
+
+order_within : (shown : List Shown) (ks : List OrderText) → order_faults shown ks ≡ [] → Each (λ (k : OrderKey). k.place < length shown) (order_of shown ks)
+order_within shown [] f = tt
+order_within shown (k ∷ ks) f =
+    (first_below (length shown) (order_place shown k.by) (key_below shown k.by) (left_nil _ _ f), order_within shown ks (right_nil (order_faults_of (order_place shown k.by)) _ f))
+
 pub query_places : (d : Dictionary) (q : SelectText) → query_faults d q ≡ [] → HasItsPlaces (width_of (query_sources d q)) (query d q)
 query_places d q f =
     let later : later_faults d q ≡ [] = right_nil (missing_tables d (tables_of q.from)) _ f in
     let shown : shown_faults (query_scope d q) (length (keys_of d q)) q.shown ≡ [] = left_nil _ _ later in
     let rest : condition_faults (query_sources d q) (conditions_of q) ++ _ ≡ [] = right_nil (shown_faults (query_scope d q) (length (keys_of d q)) q.shown) _ later in
+    let more : group_faults (query_sources d q) q.group ++ _ ≡ [] = right_nil (condition_faults (query_sources d q) (conditions_of q)) _ rest in
+    let order : order_faults (shown_in d q) q.order ≡ [] = left_nil _ _ (right_nil (group_faults (query_sources d q) q.group) _ more) in
     let groups : group_faults (query_sources d q) q.group ≡ [] = left_nil _ _ (right_nil (condition_faults (query_sources d q) (conditions_of q)) _ rest) in
     record {
       conjuncts = conjuncts_within (query_sources d q) (conditions_of q) (left_nil _ _ rest);
       groups = groups_within (is_grouped q) (query_sources d q) (keys_of d q) (is_empty q.group) q.shown (keys_within (query_sources d q) q.group groups) shown;
       shown = outs_within (is_grouped q) (query_sources d q) (keys_of d q) (is_empty q.group) q.shown shown;
+      order = order_within (shown_in d q) q.order order;
     }

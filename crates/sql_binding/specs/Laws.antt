@@ -11,6 +11,7 @@ use Rattle.sql_binding.specs.Creating.{columns_at}
 use Rattle.sql_binding.specs.Names.{Source, Spot}
 use Rattle.dby_types.specs.declared.value.Value.{Value}
 use Rattle.dby_types.specs.declared.value.Value.TheVariants.{Null}
+use Rattle.sql_ast.specs.declared.bound.OrderKey.{OrderKey}
 use Rattle.sql_ast.specs.declared.statement.Item.{Item}
 use Rattle.sql_binding.specs.Changes.{item_tree}
 use Rattle.sql_binding.specs.Types.{kind_of, same_kind}
@@ -79,6 +80,7 @@ pub record HasItsPlaces (w : ℕ) (q : Query) : Type 0 where
   pub conjuncts : Each (IsWithin w) q.conjuncts
   pub groups : AreGroupsWithin w q.groups
   pub shown : Each (IsShownWithin (base_width w q.groups)) q.shown
+  pub order : Each (λ (k : OrderKey). k.place < length q.shown) q.order
 
 -- ---- names
 

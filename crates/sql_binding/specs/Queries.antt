@@ -149,14 +149,14 @@ abbrev pub groups_if : Bool → Groups → Option Groups
 groups_if true g = Some g
 groups_if false g = None
 
+abbrev pub behind_one : Option ℕ → Option ℕ
+behind_one None = None
+behind_one (Some n) = Some (suc n)
+
 -- ORDER BY: the first column of a name, or the column at a position from 1
 abbrev pub place_named : List ℕ → List Shown → Option ℕ
 place_named name [] = None
 place_named name (s ∷ ss) = if bytes_eq name s.name then Some 0 else behind_one (place_named name ss)
-  where
-    behind_one : Option ℕ → Option ℕ
-    behind_one None = None
-    behind_one (Some n) = Some (suc n)
 
 abbrev pub place_at : ℕ → ℕ → Option ℕ
 place_at n count = if nat_le 1 n && nat_le n count then Some (n - 1) else None

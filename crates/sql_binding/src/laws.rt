@@ -9,7 +9,7 @@ ghost use Rattle.dby_types.specs.declared.value.Value.{Value};
 ghost use Rattle.expr_model.specs.Expression.{value_of};
 ghost use Rattle.expr_model.specs.declared.evaluated.Evaluated.TheVariants.{Value as Gives};
 ghost use Rattle.sql_ast.specs.declared.bound.Expr.{Expr};
-ghost use Rattle.sql_ast.specs.declared.expression.Expression.{Expression};
+ghost use Rattle.sql_ast.specs.declared.expression.Expression.{Expression, Sign'};
 ghost use Rattle.sql_ast.specs.declared.statement.Item.{Item};
 ghost use Rattle.sql_ast.specs.declared.statement.SelectText.{SelectText};
 ghost use Rattle.sql_ast.specs.declared.statement.Statement.{Statement};
@@ -27,9 +27,10 @@ ghost use Rattle.sql_binding.specs.Order.{kept_with, refusal_of};
 ghost use Rattle.sql_binding.specs.Queries.{query, query_faults, query_sources};
 ghost use Rattle.sql_binding.specs.Trees.{Tree, conjuncts_in, tree_of, trees_of};
 ghost use Rattle.sql_model.specs.Inserting.{in_table_order};
-ghost use Rattle.sql_model.specs.Where.{conjuncts_of as split_of};
+ghost use Rattle.sql_model.specs.Where.{conjuncts_of as split_of, is_plain};
+ghost use Rattle.sql_ast.specs.declared.expression.Sum.{Sum as Sign};
 ghost use Rattle.std.specs.Global.{Box};
-ghost use Rattle.std.specs.Prelude.{◌≡◌, ◌≢◌, ◌≤◌, ◌∷◌, ◌++◌, [], Err, List, None, Ok, Option, Some, length, true, ℕ};
+ghost use Rattle.std.specs.Prelude.{◌≡◌, ◌≢◌, ◌≤◌, ◌∷◌, ◌++◌, [], Err, List, None, Ok, Option, Some, false, length, true, ℕ};
 ghost use Rattle.table_model.specs.Tables.{Each};
 
 /// A statement is bound exactly where nothing is wrong with it, and else refused by the first fault of the earliest class: all before it in
@@ -114,4 +115,9 @@ pub fn values_are_of_their_types()
 pub fn tuples_are_in_the_tables_order()
     ensures { (columns : List ColumnDef) (spots : List Spot) (items : List Item) (es : List Expr) → trees_of es ≡ item_trees spots items
         → trees_of (in_table_order columns (places_of spots) es) ≡ tuple_trees columns spots items }
+{}
+
+/// A sign that isn't a literal's, plus or minus, leaves a tree that the meaning doesn't take for a plain one.
+pub fn signs_are_not_plain()
+    ensures { (ss : List Source) (op : Sign) (p : _) (a : Expression) (x : Expr) → tree_of x ≡ bound_over ss (Sign' op p a) → is_plain x ≡ false }
 {}
