@@ -38,7 +38,7 @@ number_fits cs n = step (is_number_of Int n)
     step true = refl
     step false = refl
 
-stands_at : (cs : List ColumnDef) (name : List ℕ) (spot : Spot) → Stands 0 cs name spot → (c : ColumnDef) × (columns_at spot.place cs ≡ c ∷ []) × (c.ty ≡ spot.ty)
+pub stands_at : (cs : List ColumnDef) (name : List ℕ) (spot : Spot) → Stands 0 cs name spot → (c : ColumnDef) × (columns_at spot.place cs ≡ c ∷ []) × (c.ty ≡ spot.ty)
 stands_at cs name spot h =
     let place : spot.place ≡ h.index = (let at : spot.place ≡ h.index + 0 = h.place_is in omega arith) in
     (h.column, ap (λ (n : ℕ). columns_at n cs) place ∙ h.there, sym h.ty_is)

@@ -7,3 +7,4 @@ pub mod Naming
 pub mod Heading
 pub mod Valuing
 pub mod Signing
+pub mod Keeping

@@ -87,7 +87,7 @@ one_on n c cs name spot h = let there : spot.place ≡ h.index + suc n = h.place
 some_spot : (a b : Spot) → Some a ≡ Some b → a ≡ b
 some_spot a b h = cc
 
-spot_stands : (n : ℕ) (name : List ℕ) (cs : List ColumnDef) (spot : Spot) → spot_from n name cs ≡ Some spot → Stands n cs name spot
+pub spot_stands : (n : ℕ) (name : List ℕ) (cs : List ColumnDef) (spot : Spot) → spot_from n name cs ≡ Some spot → Stands n cs name spot
 spot_stands n name [] spot h = absurd (cc)
 spot_stands n name (c ∷ cs) spot h = step (bytes_eq name c.name) refl h (spot_stands (suc n) name cs spot)
   where

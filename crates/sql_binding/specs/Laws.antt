@@ -16,7 +16,7 @@ use Rattle.sql_ast.specs.declared.statement.Item.{Item}
 use Rattle.sql_binding.specs.Changes.{item_tree}
 use Rattle.sql_binding.specs.Types.{kind_of, same_kind}
 use Rattle.value_compare.specs.Order.{rank}
-use Rattle.sql_binding.specs.Bound.{Shown, Sum, all_rows, sum_of, Groups, Query}
+use Rattle.sql_binding.specs.Bound.{Put, Shown, Sum, all_rows, sum_of, Groups, Query}
 use Rattle.sql_binding.specs.Order.{class_of}
 use Rattle.sql_binding.specs.Trees.{Tree, Trees, Form, typed, column, literal, arithmetic, negated, compare, is_null, between, in_, and, or, not, none, with, ty_of}
 use Rattle.table_model.specs.Tables.{Each}
@@ -177,3 +177,21 @@ abbrev pub item_trees : List Spot → List Item → List Tree
 item_trees [] items = []
 item_trees (s ∷ ss) [] = []
 item_trees (s ∷ ss) (item ∷ items) = item_tree [] s.ty item ∷ item_trees ss items
+
+-- ---- what columns can store
+
+-- the column at a place can store a tree's value
+pub record CanStore (columns : List ColumnDef) (n : ℕ) (t : Tree) : Type 0 where
+  pub column : ColumnDef
+  pub there : columns_at n columns ≡ column ∷ []
+  pub kind : same_kind column.ty (ty_of t) ≡ true
+
+abbrev pub CanPut : List ColumnDef → Put → Type 0
+CanPut columns p = CanStore columns p.column p.tree
+
+-- each column can store the value that stands for it
+abbrev pub CanStoreAll : List ColumnDef → List Tree → Type 0
+CanStoreAll [] [] = Unit {0}
+CanStoreAll [] (t ∷ ts) = ⊥
+CanStoreAll (c ∷ cs) [] = ⊥
+CanStoreAll (c ∷ cs) (t ∷ ts) = (same_kind c.ty (ty_of t) ≡ true) × CanStoreAll cs ts

@@ -12,16 +12,18 @@ ghost use Rattle.sql_ast.specs.declared.bound.Expr.{Expr};
 ghost use Rattle.sql_ast.specs.declared.expression.Expression.{Expression, Sign'};
 ghost use Rattle.sql_ast.specs.declared.statement.Item.{Item};
 ghost use Rattle.sql_ast.specs.declared.statement.SelectText.{SelectText};
+ghost use Rattle.dby_types.specs.declared.definition.TableDef.{TableDef};
+ghost use Rattle.sql_ast.specs.declared.statement.SetText.{SetText};
 ghost use Rattle.sql_ast.specs.declared.statement.Statement.{Statement};
 ghost use Rattle.sql_ast.specs.declared.statement.Statement.TheVariants.{Select};
 ghost use Rattle.sql_ast.specs.declared.statement.TableText.{TableText};
-ghost use Rattle.sql_binding.specs.Binding.{all_faults, binding, bound_form};
+ghost use Rattle.sql_binding.specs.Binding.{all_faults, binding, bound_form, insert_faults};
 ghost use Rattle.sql_binding.specs.Bound.{Bound};
-ghost use Rattle.sql_binding.specs.Changes.{targets, tuple_trees, tuples_trees};
+ghost use Rattle.sql_binding.specs.Changes.{puts, set_faults, targets, tuple_trees, tuples_trees};
 ghost use Rattle.sql_binding.specs.Expressions.{Scope, bound, bound_over, conjuncts_of};
 ghost use Rattle.sql_binding.specs.Faults.{condition_faults, faults, faults_over};
-ghost use Rattle.sql_binding.specs.From.{listed, missing_tables, on_conditions, sources_of, tables_of};
-ghost use Rattle.sql_binding.specs.Laws.{AreClassesFrom, HasItsPlaces, HasKind, HasKinds, IsFirst, IsTyped, IsWithin, Stands, classes, is_of_kind, item_trees, joined_columns, places_of, tables_with};
+ghost use Rattle.sql_binding.specs.From.{columns_of, listed, missing_tables, on_conditions, sources_of, tables_of};
+ghost use Rattle.sql_binding.specs.Laws.{AreClassesFrom, CanPut, CanStoreAll, HasItsPlaces, HasKind, HasKinds, IsFirst, IsTyped, IsWithin, Stands, classes, is_of_kind, item_trees, joined_columns, places_of, tables_with};
 ghost use Rattle.sql_binding.specs.Names.{Source, Spot, column_named, width_of};
 ghost use Rattle.sql_binding.specs.Order.{kept_with, refusal_of};
 ghost use Rattle.sql_binding.specs.Queries.{query, query_faults, query_sources};
@@ -120,4 +122,11 @@ pub fn tuples_are_in_the_tables_order()
 /// A sign that isn't a literal's, plus or minus, leaves a tree that the meaning doesn't take for a plain one.
 pub fn signs_are_not_plain()
     ensures { (ss : List Source) (op : Sign) (p : _) (a : Expression) (x : Expr) → tree_of x ≡ bound_over ss (Sign' op p a) → is_plain x ≡ false }
+{}
+
+/// Each value of a bound INSERT, and each new value of SET, is of a type that its column can store.
+pub fn columns_can_store_their_values()
+    ensures insert { (t : Option TableDef) (names : Option (List (List ℕ))) (ts : List (List Item)) → insert_faults t names ts ≡ []
+        → Each (CanStoreAll (columns_of t)) (tuples_trees (columns_of t) (targets (columns_of t) names) ts) }
+    ensures update { (columns : List ColumnDef) (ss : List Source) (sets : List SetText) → set_faults columns ss sets ≡ [] → Each (CanPut columns) (puts columns ss sets) }
 {}
