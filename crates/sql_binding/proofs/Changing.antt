@@ -9,7 +9,7 @@ use Rattle.sql_ast.specs.declared.bound.Node.{Node, Column, Literal, Arithmetic'
 use Rattle.sql_ast.specs.declared.expression.Expression.{Expression}
 use Rattle.sql_ast.specs.declared.statement.Item.{Item}
 use Rattle.sql_binding.specs.Changes.{targets_named, item_tree, value_for, values_from, tuple_trees, tuples_trees, spots_of}
-use Rattle.sql_binding.specs.Laws.{classes, AreClassesFrom, places_of, item_trees}
+use Rattle.sql_binding.specs.Laws.{AreClassesFrom, classes, item_trees, places_of}
 use Rattle.sql_model.specs.Inserting.{item_for, items_from, in_table_order}
 use Rattle.sql_binding.specs.Expressions.{bound_over, conjuncts_of}
 use Rattle.sql_binding.specs.Names.{Source, Spot}

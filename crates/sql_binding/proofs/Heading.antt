@@ -12,7 +12,8 @@ use Rattle.sql_binding.proofs.Placing.{left_nil}
 use Rattle.sql_binding.specs.Creating.{columns_at}
 use Rattle.sql_binding.specs.Expressions.{bound_over}
 use Rattle.sql_binding.specs.Faults.{faults_over}
-use Rattle.sql_binding.specs.Laws.{is_of_kind, joined_columns, Stands}
+use Rattle.sql_binding.specs.Kinds.{is_of_kind}
+use Rattle.sql_binding.specs.Laws.{Stands, joined_columns}
 use Rattle.sql_binding.specs.Names.{Source, Spot, column_named, spot_or, spot_faults}
 use Rattle.sql_binding.specs.Trees.{Tree, typed, column, literal, arithmetic, negated, compare, is_null, between, in_, and, or, not}
 use Rattle.sql_binding.specs.Types.{signed, number_tree}

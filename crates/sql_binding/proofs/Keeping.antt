@@ -1,10 +1,9 @@
 -- The values of a bound INSERT or UPDATE are of types that their columns can store.
-use Rattle.std.proofs.Common.{◌≡◌, ℕ, zero, suc, ◌+◌, Bool, true, false, cond, List, [], ◌∷◌, ◌++◌, length, Option, Some, None, refl, sym, ap, ◌∙◌, subst, arith}
+use Rattle.std.proofs.Common.{◌≡◌, ℕ, suc, ◌+◌, Bool, true, false, cond, List, [], ◌∷◌, ◌++◌, Option, Some, None, refl, sym, ap, ◌∙◌, arith}
 use Rattle.std.specs.Prelude.{◌==◌}
 use Rattle.std.proofs.lemmas.Bool.{eqb-true, eq-eqb}
 use Rattle.dby_types.specs.declared.definition.ColumnDef.{ColumnDef}
 use Rattle.dby_types.specs.declared.definition.TableDef.{TableDef}
-use Rattle.dby_types.specs.declared.state.SqlState.{SqlState}
 use Rattle.dby_types.specs.declared.state.SqlState.TheVariants.{NotStorable}
 use Rattle.dby_types.specs.declared.value.Ty.{Ty}
 use Rattle.sql_ast.specs.declared.statement.Item.{Item}
@@ -13,11 +12,10 @@ use Rattle.sql_binding.proofs.Heading.{stands_at}
 use Rattle.sql_binding.proofs.Naming.{spot_stands}
 use Rattle.sql_binding.proofs.Placing.{left_nil, right_nil, unless_true}
 use Rattle.sql_binding.specs.Binding.{insert_faults}
-use Rattle.sql_binding.specs.Bound.{Put}
-use Rattle.sql_binding.specs.Changes.{target_of, target_or, target_faults, null_tree, item_tree, own_faults, storable_faults, spots_of, targets_named, targets, missing_targets, value_for, values_from, tuple_trees, tuples_trees, tuple_faults, count_faults, tuples_faults, names_in, puts, set_faults}
+use Rattle.sql_binding.specs.Changes.{target_of, target_or, target_faults, item_tree, own_faults, storable_faults, spots_of, targets_named, targets, missing_targets, value_for, values_from, tuples_trees, tuple_faults, count_faults, tuples_faults, names_in, puts, set_faults}
 use Rattle.sql_binding.specs.Creating.{columns_at}
 use Rattle.sql_binding.specs.From.{columns_of, table_faults}
-use Rattle.sql_binding.specs.Laws.{CanStore, CanPut, CanStoreAll}
+use Rattle.sql_binding.specs.Kinds.{CanPut, CanStore, CanStoreAll}
 use Rattle.sql_binding.specs.Names.{Source, Spot}
 use Rattle.sql_binding.specs.Trees.{Tree, ty_of}
 use Rattle.sql_binding.specs.Types.{kind_of, same_kind}

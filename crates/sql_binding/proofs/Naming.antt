@@ -10,7 +10,7 @@ use Rattle.dby_types.specs.declared.state.SqlState.TheVariants.{NoColumn, Ambigu
 use Rattle.sql_ast.specs.declared.statement.TableText.{TableText}
 use Rattle.sql_binding.specs.Creating.{columns_at}
 use Rattle.sql_binding.specs.From.{columns_of, found_in, exposed_by, sources_of}
-use Rattle.sql_binding.specs.Laws.{has_column, tables_with, joined_columns, Stands}
+use Rattle.sql_binding.specs.Laws.{Stands, has_column, joined_columns, tables_with}
 use Rattle.sql_binding.specs.Names.{Source, Spot, spot_from, spots_from, spot_of, only_one, or_missing, column_named}
 
 -- ---- how many tables have the column

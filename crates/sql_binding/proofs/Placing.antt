@@ -10,7 +10,7 @@ use Rattle.sql_ast.specs.declared.expression.Expression.{Expression, Or', And', 
 use Rattle.sql_ast.specs.declared.expression.Sum.TheVariants.{Plus, Minus}
 use Rattle.sql_binding.specs.Expressions.{Scope, over_rows, index_of, place_in, bound, bound_in, bound_over, calls, calls_in}
 use Rattle.sql_binding.specs.Faults.{unless, is_place, key_faults, name_faults, call_faults, as_truth, as_number, beside, faults, faults_in, faults_over}
-use Rattle.sql_binding.specs.Laws.{IsWithin, AreWithin}
+use Rattle.sql_binding.specs.Within.{AreWithin, IsWithin}
 use Rattle.sql_binding.specs.Names.{Source, Spot, spot_from, spots_from, spot_of, only_one, or_missing, column_named, spot_or, spot_faults, width_of}
 use Rattle.sql_binding.specs.Trees.{Tree}
 use Rattle.table_model.specs.Tables.{Each}

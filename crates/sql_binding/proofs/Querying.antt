@@ -9,7 +9,8 @@ use Rattle.sql_ast.specs.declared.bound.OrderKey.{OrderKey}
 use Rattle.sql_ast.specs.declared.statement.OrderBy.{OrderBy}
 use Rattle.sql_ast.specs.declared.statement.OrderBy.TheVariants.{Name, Position}
 use Rattle.sql_ast.specs.declared.statement.OrderText.{OrderText}
-use Rattle.sql_binding.specs.Queries.{behind_one, place_named, place_at, order_place, order_faults_of, or_first, order_of, order_faults, shown_in}
+use Rattle.sql_binding.specs.Ordering.{behind_one, or_first, order_faults, order_faults_of, order_of, order_place, place_at, place_named}
+use Rattle.sql_binding.specs.Queries.{shown_in}
 use Rattle.dby_types.specs.declared.definition.ColumnDef.{ColumnDef}
 use Rattle.dby_types.specs.declared.definition.Dictionary.{Dictionary}
 use Rattle.sql_ast.specs.declared.expression.Expression.{Expression, Or', And', Not', Compare', IsNull', Between', In', Add', Multiply', Sign', Number, Text, Truth, Column, ColumnOf, Brackets', CountAll, Call', Row_of-Expression, end_of-Expression, more_of-Expression}
@@ -23,9 +24,11 @@ use Rattle.sql_binding.specs.Bound.{Shown, Sum, Groups}
 use Rattle.sql_binding.specs.Expressions.{Scope, over_rows, bound, bound_over, calls, calls_in, conjuncts_of}
 use Rattle.sql_binding.specs.Faults.{faults, faults_in, faults_over, beside, as_truth, as_number, key_faults, call_faults, condition_faults}
 use Rattle.sql_binding.specs.From.{missing_tables, tables_of}
-use Rattle.sql_binding.specs.Laws.{IsWithin, IsSumWithin, IsShownWithin, AreGroupsWithin, base_width, HasItsPlaces}
+use Rattle.sql_binding.specs.Within.{AreGroupsWithin, HasItsPlaces, IsShownWithin, IsSumWithin, IsWithin, base_width}
 use Rattle.sql_binding.specs.Names.{Source, column_named, spot_faults, width_of}
-use Rattle.sql_binding.specs.Queries.{items_of, calls_of, is_grouped, key_places, group_faults, keys_if, query_sources, keys_of, shown_items, item_faults, shown_columns, shown_tables, column_faults, all_faults, shown_by, shown_faults, sums_in, sums_in_row, sums_of, groups_if, conditions_of, query_scope, query, later_faults, query_faults, is_empty}
+use Rattle.sql_binding.specs.Grouping.{group_faults, groups_if, is_empty, is_grouped, key_places, keys_if, sums_in, sums_in_row, sums_of}
+use Rattle.sql_binding.specs.Items.{all_faults, calls_of, column_faults, item_faults, items_of, shown_by, shown_columns, shown_faults, shown_items, shown_tables}
+use Rattle.sql_binding.specs.Queries.{conditions_of, keys_of, later_faults, query, query_faults, query_scope, query_sources}
 use Rattle.sql_binding.specs.Trees.{Tree, typed, column, literal, arithmetic, negated, compare, is_null, between, in_, and, or, not, conjuncts_in}
 use Rattle.table_model.specs.Tables.{Each}
 

@@ -16,7 +16,7 @@ use Rattle.sql_binding.specs.Binding.{bound_form, all_faults, binding}
 use Rattle.sql_binding.specs.Bound.{Bound, select}
 use Rattle.sql_binding.specs.From.{tables_of, missing_tables, table_faults, found_in}
 use Rattle.sql_binding.specs.Order.{class_of, or_earlier, refusal_of, kept_with, given_unless}
-use Rattle.sql_binding.specs.Queries.{query, later_faults}
+use Rattle.sql_binding.specs.Queries.{later_faults, query}
 use Rattle.table_model.specs.Tables.{Each}
 
 pub none_is : (whys : List SqlState) → refusal_of whys ≡ None → whys ≡ []

@@ -1,7 +1,6 @@
 -- A condition with a sign isn't plain.
-use Rattle.std.proofs.Common.{◌≡◌, ℕ, Bool, true, false, refl}
+use Rattle.std.proofs.Common.{◌≡◌, false, refl}
 use Rattle.dby_types.specs.declared.value.Ty.{Ty}
-use Rattle.sql_ast.specs.declared.bound.Expr.{Expr}
 use Rattle.sql_ast.specs.declared.bound.Node.{Node, Column, Literal, Arithmetic', Negated', Compare', IsNull', Between', In', And', Or', Not'}
 use Rattle.sql_ast.specs.declared.expression.Sum.{Sum as Sign}
 use Rattle.sql_ast.specs.declared.expression.Sum.TheVariants.{Plus, Minus}

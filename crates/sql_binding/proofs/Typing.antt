@@ -10,7 +10,7 @@ use Rattle.sql_ast.specs.declared.expression.Sum.TheVariants.{Plus, Minus}
 use Rattle.sql_binding.proofs.Placing.{left_nil, right_nil, unless_true}
 use Rattle.sql_binding.specs.Expressions.{Scope, bound, bound_in, bound_over, calls}
 use Rattle.sql_binding.specs.Faults.{faults, faults_in, as_truth, as_number, beside, operand_faults, condition_faults, faults_over}
-use Rattle.sql_binding.specs.Laws.{HasKind, AreComparable, IsTyped, AreTypedBeside}
+use Rattle.sql_binding.specs.Kinds.{AreComparable, AreTypedBeside, HasKind, IsTyped}
 use Rattle.sql_binding.specs.Names.{Source}
 use Rattle.sql_binding.specs.Trees.{Tree, ty_of}
 use Rattle.sql_binding.specs.Types.{same_kind}

@@ -22,7 +22,7 @@ use Rattle.sql_ast.specs.declared.bound.Node.{Node, Column, Literal, Arithmetic'
 use Rattle.sql_ast.specs.declared.expression.Comparison.{Comparison}
 use Rattle.sql_ast.specs.declared.expression.Comparison.TheVariants.{Equal, LessEqual, GreaterEqual}
 use Rattle.sql_binding.proofs.Heading.{HeadFits}
-use Rattle.sql_binding.specs.Laws.{is_of_kind, HasKinds}
+use Rattle.sql_binding.specs.Kinds.{HasKinds, is_of_kind}
 use Rattle.sql_binding.specs.Trees.{node_tree}
 use Rattle.value_compare.specs.Logic.{and_of, or_of, not_of, is_null}
 use Rattle.value_compare.specs.Order.{compared}

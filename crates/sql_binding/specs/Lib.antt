@@ -6,8 +6,13 @@ pub mod Faults
 pub mod Order
 pub mod Bound
 pub mod From
+pub mod Items
+pub mod Grouping
+pub mod Ordering
 pub mod Queries
 pub mod Changes
 pub mod Creating
 pub mod Binding
 pub mod Laws
+pub mod Within
+pub mod Kinds

@@ -23,7 +23,9 @@ ghost use Rattle.sql_binding.specs.Changes.{puts, set_faults, targets, tuple_tre
 ghost use Rattle.sql_binding.specs.Expressions.{Scope, bound, bound_over, conjuncts_of};
 ghost use Rattle.sql_binding.specs.Faults.{condition_faults, faults, faults_over};
 ghost use Rattle.sql_binding.specs.From.{columns_of, listed, missing_tables, on_conditions, sources_of, tables_of};
-ghost use Rattle.sql_binding.specs.Laws.{AreClassesFrom, CanPut, CanStoreAll, HasItsPlaces, HasKind, HasKinds, IsFirst, IsTyped, IsWithin, Stands, classes, is_of_kind, item_trees, joined_columns, places_of, tables_with};
+ghost use Rattle.sql_binding.specs.Kinds.{CanPut, CanStoreAll, HasKind, HasKinds, IsTyped, is_of_kind};
+ghost use Rattle.sql_binding.specs.Laws.{AreClassesFrom, IsFirst, Stands, classes, item_trees, joined_columns, places_of, tables_with};
+ghost use Rattle.sql_binding.specs.Within.{HasItsPlaces, IsWithin};
 ghost use Rattle.sql_binding.specs.Names.{Source, Spot, column_named, width_of};
 ghost use Rattle.sql_binding.specs.Order.{kept_with, refusal_of};
 ghost use Rattle.sql_binding.specs.Queries.{query, query_faults, query_sources};
