@@ -39,11 +39,12 @@ put_kept columns s t h k = record { column = h.0; there = h.1; kind = ap (λ (ty
 pub puts_kept : (columns : List ColumnDef) (ss : List Source) (sets : List SetText) → set_faults columns ss sets ≡ [] → Each (CanPut columns) (puts columns ss sets)
 puts_kept columns ss [] f = tt
 puts_kept columns ss (s ∷ sets) f =
-    let rest : storable_faults ss (target_or (target_of columns s.column)).ty s.item ++ set_faults columns ss sets ≡ [] = right_nil (target_faults (target_of columns s.column)) _ f in
-    (put_kept columns (target_or (target_of columns s.column)) (item_tree ss (target_or (target_of columns s.column)).ty s.item)
-        (target_is columns s.column (target_of columns s.column) refl (left_nil (target_faults (target_of columns s.column)) _ f))
-        (storable_kind ss (target_or (target_of columns s.column)).ty s.item (left_nil _ _ rest))
-    , puts_kept columns ss sets (right_nil (storable_faults ss (target_or (target_of columns s.column)).ty s.item) _ rest))
+    let rest : storable_faults ss (target_or (target_of columns s.column)).ty s.item ++ set_faults columns ss sets ≡ [] = right_nil (target_faults (target_of columns s.column)) _ f in (
+      put_kept columns (target_or (target_of columns s.column)) (item_tree ss (target_or (target_of columns s.column)).ty s.item)
+          (target_is columns s.column (target_of columns s.column) refl (left_nil (target_faults (target_of columns s.column)) _ f))
+          (storable_kind ss (target_or (target_of columns s.column)).ty s.item (left_nil _ _ rest)),
+      puts_kept columns ss sets (right_nil (storable_faults ss (target_or (target_of columns s.column)).ty s.item) _ rest),
+    )
 
 -- ---- INSERT
 abbrev AreTargets : List ColumnDef → List Spot → Type 0
@@ -51,9 +52,10 @@ AreTargets columns spots = Each (IsTarget columns) spots
 
 named_targets : (columns : List ColumnDef) (names : List (List ℕ)) → missing_targets columns names ≡ [] → AreTargets columns (targets_named columns names)
 named_targets columns [] f = tt
-named_targets columns (name ∷ names) f =
-    (target_is columns name (target_of columns name) refl (left_nil (target_faults (target_of columns name)) _ f)
-    , named_targets columns names (right_nil (target_faults (target_of columns name)) _ f))
+named_targets columns (name ∷ names) f = (
+  target_is columns name (target_of columns name) refl (left_nil (target_faults (target_of columns name)) _ f),
+  named_targets columns names (right_nil (target_faults (target_of columns name)) _ f),
+)
 
 -- columns that stand from place n on
 abbrev StandFrom : List ColumnDef → ℕ → List ColumnDef → Type 0
@@ -113,13 +115,14 @@ values_kept columns spots items n (c ∷ cs) h at f =
 
 tuples_kept : (columns : List ColumnDef) (spots : List Spot) (ts : List (List Item)) → AreTargets columns spots → tuples_faults spots ts ≡ [] → Each (CanStoreAll columns) (tuples_trees columns spots ts)
 tuples_kept columns spots [] h f = tt
-tuples_kept columns spots (t ∷ ts) h f =
-    (values_kept columns spots t 0 columns h (from_start columns) (left_nil _ _ f)
-    , tuples_kept columns spots ts h (right_nil (count_faults spots t) _ (right_nil (tuple_faults spots t) _ f)))
+tuples_kept columns spots (t ∷ ts) h f = (
+  values_kept columns spots t 0 columns h (from_start columns) (left_nil _ _ f),
+  tuples_kept columns spots ts h (right_nil (count_faults spots t) _ (right_nil (tuple_faults spots t) _ f)),
+)
 
 pub insert_kept : (t : Option TableDef) (names : Option (List (List ℕ))) (ts : List (List Item)) → insert_faults t names ts ≡ []
     → Each (CanStoreAll (columns_of t)) (tuples_trees (columns_of t) (targets (columns_of t) names) ts)
 insert_kept t names ts f =
     let rest : missing_targets (columns_of t) (names_in names) ++ _ ≡ [] = right_nil (table_faults t) _ f in
     tuples_kept (columns_of t) (targets (columns_of t) names) ts (targets_are (columns_of t) names (left_nil _ _ rest))
-        (left_nil _ _ (right_nil (missing_targets (columns_of t) (names_in names)) _ rest))
+    (left_nil _ _ (right_nil (missing_targets (columns_of t) (names_in names)) _ rest))
