@@ -1,0 +1,10 @@
+pub mod Refusing
+pub mod Placing
+pub mod Querying
+pub mod Changing
+pub mod Typing
+pub mod Naming
+pub mod Heading
+pub mod Valuing
+pub mod Signing
+pub mod Keeping
