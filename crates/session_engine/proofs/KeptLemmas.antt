@@ -2,7 +2,7 @@
 use Rattle.std.proofs.Common.{◌≡◌, ◌≢◌, ℕ, ◌+◌, ◌<◌, ◌≤◌, length, List, [], ◌∷◌, ◌++◌, set, get_or, Bool, true, false, refl, sym, ◌∙◌, ap, subst, arith, append-nil, append_assoc, Option, inl, inr}
 use Rattle.std.specs.Prelude.{◌⊎◌, Result, Ok, Err, IfErr, Some, None}
 use Rattle.store_api.specs.View.{View, Content, Meters}
-use Rattle.store_api.specs.Frames.{HasCause, Spends, Stores, never_full}
+use Rattle.store_api.specs.Frames.{HasCause, OnlyCounts, Spends, Stores, never_full}
 use Rattle.store_api.specs.declared.answers.StoreAnswer.{StoreAnswer}
 use Rattle.store_api.specs.declared.answers.StoreAnswer.TheVariants.{Failed, Damaged, Full, Memory as NoMemory}
 use Rattle.journal_model.specs.declared.journal.Entry.{Entry}
@@ -10,6 +10,7 @@ use Rattle.journal_model.specs.declared.journal.Entry.TheVariants as entry
 use Rattle.dby_types.specs.declared.number.TxnNo.{TxnNo}
 use Rattle.dby_types.specs.declared.number.Damage.{Damage}
 use Rattle.dby_types.specs.declared.state.SqlState.{SqlState}
+use Rattle.dby_types.specs.declared.state.SqlState.TheVariants as state
 use Rattle.session_engine.specs.declared.session.Session.{Session}
 use Rattle.session_engine.specs.declared.step.Event.{Event}
 use Rattle.session_engine.specs.declared.step.Event.TheVariants.{Begin, Rollback}
@@ -26,7 +27,7 @@ use Rattle.table_model.specs.Tables.{no_tables}
 use Rattle.lock_modes.specs.Lock.{Lock}
 use Rattle.journal_model.proofs.BaseLemmas.{at_same}
 use Rattle.journal_model.specs.declared.journal.Refusal.{Refusal}
-use Rattle.journal_model.specs.declared.journal.Statement.{Statement}
+use Rattle.sql_ast.specs.declared.statement.Statement.{Statement}
 use Rattle.dby_types.specs.declared.number.ConnNo.{ConnNo}
 use Rattle.dby_types.specs.declared.number.Level.{Level}
 use Rattle.session_engine.specs.Stepped.{Grows, HaltsFor, HasStopped, NotEnded, Refuses, Shows, IsHalt, IsOwn, IsTold, stop_after, least_of, most_of, comes_in, comes_with, is_told, is_end, may_fail, either, IsNoted, IsFinished, KeepsFor}
@@ -322,6 +323,56 @@ halts_but v Failed ne h = h
 halts_but v (Damaged d) ne h = h
 halts_but v (Full state) ne h = h
 halts_but v NoMemory ne h = absurd (ne refl)
+
+-- one that isn't full
+pub refuses_full : (v : View) (e : StoreAnswer) → ((s : SqlState) → e ≢ Full s) → KeepsFor v e → Refuses v e
+refuses_full v Failed ne h = h
+refuses_full v (Damaged d) ne h = h
+refuses_full v (Full state) ne h = absurd (ne state refl)
+refuses_full v NoMemory ne h = tt
+
+pub halts_open : (v : View) (e : StoreAnswer) → ((s : SqlState) → e ≢ Full s) → e ≢ NoMemory → KeepsFor v e → HaltsFor v e
+halts_open v e full ne h = halts_but v e ne (refuses_full v e full h)
+
+-- a store is full of pages or of log
+spends : (s : SqlState) (old new : Meters) → s ≢ state.PagesSpent → s ≢ state.LogSpent → Spends s old new → ⊥
+spends state.Deadlock old new pages log h = h
+spends state.DuplicateKey old new pages log h = h
+spends state.NullNotAllowed old new pages log h = h
+spends state.TextTooLong old new pages log h = h
+spends state.OutOfRange old new pages log h = h
+spends state.DivisionByZero old new pages log h = h
+spends (state.Syntax at) old new pages log h = h
+spends state.NoTable old new pages log h = h
+spends state.NoColumn old new pages log h = h
+spends state.AmbiguousColumn old new pages log h = h
+spends state.NotInTarget old new pages log h = h
+spends state.ValueCount old new pages log h = h
+spends state.NotComparable old new pages log h = h
+spends state.NotStorable old new pages log h = h
+spends state.NameExists old new pages log h = h
+spends state.NothingToDrop old new pages log h = h
+spends state.NoParent old new pages log h = h
+spends state.CheckFails old new pages log h = h
+spends state.NotBuilt old new pages log h = h
+spends state.PagesSpent old new pages log h = absurd (pages refl)
+spends state.LogSpent old new pages log h = absurd (log refl)
+spends state.TooLarge old new pages log h = h
+spends state.StatementTooLong old new pages log h = h
+spends state.NameTwice old new pages log h = h
+spends state.Grouping old new pages log h = h
+spends state.WrongOperand old new pages log h = h
+spends state.SecondPrimaryKey old new pages log h = h
+spends state.CursorState old new pages log h = h
+spends state.CursorQuery old new pages log h = h
+spends state.CursorsSpent old new pages log h = h
+spends state.CursorOpen old new pages log h = h
+spends state.NoParentKey old new pages log h = h
+spends state.IsParent old new pages log h = h
+spends state.CheckTooLong old new pages log h = h
+
+pub spends_both : (s : SqlState) (old new : View) → s ≢ state.PagesSpent → s ≢ state.LogSpent → OnlyCounts s old new → ⊥
+spends_both s old new pages log h = spends s old.meters new.meters pages log h.counted
 
 pub keeps_held : (v : View) (e : StoreAnswer) → (e ≡ NoMemory) ⊎ (v.meters.keeps ≡ Some e) → KeepsFor v e
 keeps_held v Failed h = elim h [ inl none ↦ (let x : Failed ≡ NoMemory = none in cc) | inr k ↦ k ]

@@ -3,7 +3,7 @@ use Rattle.std.proofs.Common.{◌≡◌, ◌≢◌, ℕ, zero, suc, ◌+◌, ◌
 use Rattle.std.specs.Prelude.{◌⊎◌, ◌++◌, if◌then◌else◌, None}
 use Rattle.std.proofs.lemmas.Bool.Decides.{nat_tests}
 use Rattle.std.proofs.lemmas.List.{get_or-map, get_or_past, map-set, set-get_or, set-set, length-append}
-use Rattle.store_api.specs.Effects.{GoesOn, IsHeld}
+use Rattle.store_api.specs.Effects.{GoesOn, IsHeld, TakesBack, Undoes}
 use Rattle.journal_model.proofs.BaseLemmas.{at_same}
 use Rattle.journal_model.specs.declared.journal.Entry.{Entry}
 use Rattle.session_model.specs.declared.journal.Locked.{Locked}
@@ -11,9 +11,10 @@ use Rattle.store_api.specs.Frames.{Frame, GrowingFrame, StillFrame}
 use Rattle.store_api.specs.View.{View, Content, Holding}
 use Rattle.dby_types.specs.declared.number.RowId.{RowId}
 use Rattle.dby_types.specs.declared.value.Value.{Value}
-use Rattle.store_api.specs.Effects.{TakesBack}
 use Rattle.store_api.specs.Order.{is_behind}
 use Rattle.store_api.specs.declared.slot.Item.{Item}
+use Rattle.store_api.specs.declared.slot.Item.TheVariants.{Created, Discarded}
+use Rattle.store_api.specs.declared.answers.Undo.TheVariants as undo
 use Rattle.lock_modes.specs.declared.mode.Mode.{Mode}
 use Rattle.lock_modes.specs.declared.name.LockName.{LockName}
 use Rattle.session_model.specs.declared.order.Order.{Order}
@@ -237,7 +238,15 @@ paces_passed c result ss s' rid es es' v v' done here passed acts = paces_does c
 pub paces_undid : (c t : ℕ) (result : Step) (item : Item) (ss : List Session) (s' : Session) (es es' : List Entry) (v v' : View) → gets_done result ≡ true → TakesBack t item v v' → Acts (c + 1) v v'
     → Paces c result (nexts_of ss) (nexts_of (set ss c s')) es es' v v'
 paces_undid c t result item ss s' es es' v v' done back acts =
-    paces_does c result ss s' es es' v v' done acts (inr (inr (inr (t, (item, (back.rest, (back.newest, ap (λ (d : Content). d.changes t) back.stored.stored ∙ at_same v.content.changes t (Some back.rest))))))))
+    paces_does c result ss s' es es' v v' done acts (inr (inr (inr (t, item, back.rest, back.newest, ap (λ (d : Content). d.changes t) back.stored.stored ∙ at_same v.content.changes t (Some back.rest)))))
+
+-- .. or a container
+pub paces_unmade : (c a t d : ℕ) (result : Step) (ss : List Session) (s' : Session) (es es' : List Entry) (v v' : View) → gets_done result ≡ true → Undoes a t d v v' undo.UndidContainer → Acts (c + 1) v v'
+    → Paces c result (nexts_of ss) (nexts_of (set ss c s')) es es' v v'
+paces_unmade c a t d result ss s' es es' v v' done back acts = elim back.0 [
+  | inl made ↦ paces_undid c t result (Created made.0) ss s' es es' v v' done made.1 acts
+  | inr gone ↦ paces_undid c t result (Discarded gone.0) ss s' es es' v v' done gone.1 acts
+]
 
 -- A STEP that tells of nothing done: the engine has stopped, or there was no memory, or the connection has ended
 pub paces_kept : (c : ℕ) (result : Step) (ns : List Next) (es es' : List Entry) (v v' : View) → claims result ≡ false → gets_done result ≡ true → Acts (c + 1) v v' → Paces c result ns ns es es' v v'
@@ -619,6 +628,21 @@ paces_granted c ss r s' x es es' v v' here asked is acts =
     omega (arith, near, same, three))
     (asks_on (next_of s') (next_at (nexts_of ss) c) here)
 
+-- .. or there was no memory to ask for it
+asks_early : (x : Next) → asks x ≡ true → stage x < 6
+asks_early next.Ask e = omega arith
+asks_early next.Claim e = omega arith
+asks_early next.End e = let z : false ≡ true = e in cc
+asks_early next.Begin e = let z : false ≡ true = e in cc
+asks_early next.Resume e = let z : false ≡ true = e in cc
+asks_early next.Prepare e = let z : false ≡ true = e in cc
+asks_early (next.Work w) e = let z : false ≡ true = e in cc
+asks_early next.Refuse e = let z : false ≡ true = e in cc
+asks_early (next.Close k) e = let z : false ≡ true = e in cc
+
+pub paces_starved : (c : ℕ) (ss : List Session) (s' : Session) (es es' : List Entry) (v v' : View) → asks (next_at (nexts_of ss) c) ≡ true → s'.phase ≡ Refusing → Acts (c + 1) v v' → Paces c (Went event.Prepare) (nexts_of ss) (nexts_of (set ss c s')) es es' v v'
+paces_starved c ss s' es es' v v' here is acts = paces_gives c (Went event.Prepare) ss s' (next_at (nexts_of ss) c) es es' v v' refl refl (asks_early (next_at (nexts_of ss) c) here) is acts
+
 -- .. or was granted since
 stage_of_work : (w : Work) → 4 ≤ stage (next.Work w)
 stage_of_work (work.Seek after) = omega arith
@@ -681,6 +705,32 @@ gave_up {A = A} {B = B} {C = C} {D = D} {E = E} ss k s' v a b c d e same is open
 -- what holds of the entries, the store and the connections inside holds of an engine as it is seen
 pub inside : {A B C D E : Type 0} (P : B → D → List Next → Type 0) (v : A × B × C × D × E × List Next) (a : A) (b : B) (c : C) (d : D) (e : E) (ns : List Next) → (a, b, c, d, e, ns) ≡ v → P b d ns → P v.1 v.3 v.5
 inside {A = A} {B = B} {C = C} {D = D} {E = E} P v a b c d e ns same h = subst (λ (w : A × B × C × D × E × List Next). P w.1 w.3 w.5) same h
+
+-- so does a pace
+pub paces_inside : {A C S E : Type 0} (view : S → View) (c : ℕ) (result : Step) (ns ns' : List Next) (es es' : List Entry) (st : S) (v' : View) (v : A × List Entry × C × S × E × List Next) (a : A) (k : C) (e : E) → (a, es, k, st, e, ns) ≡ v
+    → Paces c result ns ns' es es' (view st) v' → Paces c result v.5 ns' v.1 es' (view v.3) v'
+paces_inside {S = S} view c result ns ns' es es' st v' v a k e same h = inside (λ (bs : List Entry) (x : S) (ms : List Next). Paces c result ms ns' bs es' (view x) v') v a es k st e ns same h
+
+pub asks_inside : {A B C D E : Type 0} (ns : List Next) (k : ℕ) (v : A × B × C × D × E × List Next) (a : A) (b : B) (c : C) (d : D) (e : E) → (a, b, c, d, e, ns) ≡ v → asks (next_at v.5 k) ≡ true → asks (next_at ns k) ≡ true
+asks_inside {A = A} {B = B} {C = C} {D = D} {E = E} ns k v a b c d e same h = ap (λ (w : A × B × C × D × E × List Next). asks (next_at w.5 k)) same ∙ h
+
+-- so does that it has stopped
+pub paces_stopped : {A C S E : Type 0} (view : S → View) (c : ℕ) (result : Step) (ss : List Session) (s' : Session) (es : List Entry) (st st' : S) (v w : A × List Entry × C × S × E × List Next) (a : A) (k : C) (e : E) → (a, es, k, st, e, nexts_of ss) ≡ v
+    → w.5 ≡ nexts_of (set ss c s') → w.1 ≡ es → w.3 ≡ st' → IsHalt result → Acts (c + 1) (view st) (view st') → Paces c result v.5 w.5 v.1 w.1 (view v.3) (view w.3)
+paces_stopped {A = A} {C = C} {S = S} {E = E} view c result ss s' es st st' v w a k e same nexts entries store is acts =
+    inside (λ (bs : List Entry) (x : S) (ns : List Next). Paces c result ns w.5 bs w.1 (view x) (view w.3)) v a es k st e (nexts_of ss) same
+    (subst (λ (ns : List Next). Paces c result (nexts_of ss) ns es w.1 (view st) (view w.3)) (sym nexts)
+    (subst (λ (x : S). Paces c result (nexts_of ss) (nexts_of (set ss c s')) es w.1 (view st) (view x)) (sym store)
+    (paces_halted c result ss s' es w.1 (view st) (view st') (claims_halted result is) (done_halted result is) acts)))
+
+-- .. before anything was looked at
+pub paces_stopped_still : {A C S E : Type 0} (view : S → View) (c : ℕ) (result : Step) (ss : List Session) (es : List Entry) (st st' : S) (v w : A × List Entry × C × S × E × List Next) (a : A) (k : C) (e : E) → (a, es, k, st, e, nexts_of ss) ≡ v
+    → w.5 ≡ nexts_of ss → w.1 ≡ es → w.3 ≡ st' → IsHalt result → Acts (c + 1) (view st) (view st') → Paces c result v.5 w.5 v.1 w.1 (view v.3) (view w.3)
+paces_stopped_still {A = A} {C = C} {S = S} {E = E} view c result ss es st st' v w a k e same nexts entries store is acts =
+    paces_inside view c result (nexts_of ss) w.5 es w.1 st (view w.3) v a k e same
+    (subst (λ (ns : List Next). Paces c result (nexts_of ss) ns es w.1 (view st) (view w.3)) (sym nexts)
+    (subst (λ (x : S). Paces c result (nexts_of ss) (nexts_of ss) es w.1 (view st) (view x)) (sym store)
+    (paces_kept c result (nexts_of ss) es w.1 (view st) (view st') (claims_halted result is) (done_halted result is) acts)))
 
 -- one that gives up, and then leaves
 next_left : (ns : List Next) (c : ℕ) (to : Next) → next_at ns c ≡ next.Close close.GiveUp → next_at (set ns c to) c ≡ to

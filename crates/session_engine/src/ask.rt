@@ -1,6 +1,6 @@
 //! The step in which a statement asks for a lock.
 
-ghost use Rattle.std.specs.Prelude.{◌≡◌, ◌+◌};
+ghost use Rattle.std.specs.Prelude.{◌≡◌, ◌+◌, true};
 ghost use Rattle.session_engine.specs.Stepped.{Grows, HasStopped, NotEnded, stop_after};
 ghost use Rattle.session_engine.specs.Blocking.{HasWhy};
 ghost use Rattle.session_engine.specs.Pacing.{Paces, asks, next_at};

@@ -203,10 +203,11 @@ impl<S: RowStore + Drop> Engine<S> {
 }
 
 impl<S: RowStore> Engine<S> {
-    /// The journal is legal for the scripts, and the store is sound, at any time.
+    /// The journal is legal for the scripts, the store is sound, and each script has a connection, at any time.
     pub fn law(&self)
         ensures legal { IsLegal no_tables self.now.0 self.now.1 self.now.2 }
         ensures sound { IsSound (S.view self.now.3) }
+        ensures all { length self.now.5 ≡ length self.now.0 }
     {
         let _ = self.sessions.is_empty();
         self.store.law();

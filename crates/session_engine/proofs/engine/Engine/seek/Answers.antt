@@ -1,4 +1,4 @@
-use Rattle.std.proofs.Common.{◌≡◌, ◌<◌, length, refl, sym, ◌∙◌, ap, subst, arith}
+use Rattle.std.proofs.Common.{rules, ◌≡◌, ◌<◌, length, refl, sym, ◌∙◌, ap, subst, arith}
 use Rattle.session_engine.specs.Engine.{state}
 use Rattle.session_engine.specs.Scanning.{IsSought}
 use Rattle.session_engine.specs.declared.session.Plan.TheVariants as plan
@@ -11,7 +11,8 @@ use Rattle.session_engine.specs.declared.scanning.Sought.TheVariants as sought
 use Rattle.session_engine.specs.declared.step.Event.TheVariants as event
 use Rattle.session_engine.specs.declared.step.Step.TheVariants.{Blocked}
 use Rattle.session_engine.specs.Scanning.{TurnsTo}
-use Rattle.session_engine.proofs.PaceLemmas.{acts_bare, acts_frame, came_near, here_inside, looks_from, paces_blocked, paces_came, paces_on, paces_refused, replanned}
+use Rattle.session_engine.proofs.KeptLemmas.{kept_scripts}
+use Rattle.session_engine.proofs.PaceLemmas.{acts_frame, here_inside, looks_from, paces_stopped}
 use Rattle.session_engine.proofs.engine.Engine.seek.Goals as goal
 
 pub seek_row-requires-clause-described : goal.seek_row-requires-clause-described
@@ -95,3 +96,15 @@ overflow_sub-self g c =
     let lt : c.args.c < length c.self.inside.sessions.items = omega arith in
     let one = (working_owes c.self.inside.entries c.self.inside.events c.self.inside.locks c.self.inside.sessions.items (g.S.RowStore.view c.self.inside.store) c.self.inside.tables.entries c.self.inside.last c.self.inside.owed c.self.inside.owed_events c.args.c c.index_mut-session.result.now c.self.invariant lt c.index_mut-session.ensures.value c.in-Working.is).0 in
     omega (arith, one)
+
+pub returns-in-Err : goal.returns-in-Err
+returns-in-Err g c = record {
+  same = c.halt.ensures.same ∙ kept_scripts c.self.inside.sessions.items c.args.c c.index_mut-session.result.now _ c.index_mut-session.ensures.value refl ∙ ap (λ e. e.0) c.self.view_is;
+  grows = search rules;
+  stops = search rules;
+  cause = search rules;
+  goes = search rules;
+  paces = paces_stopped g.S.RowStore.view c.args.c c.halt.result c.self.inside.sessions.items _ _ _ _ c.args.self.now c.halt.new.self _ _ _ c.self.view_is c.halt.ensures.nexts c.halt.ensures.entries c.halt.ensures.store c.halt.ensures.halted
+      (acts_frame _ _ _ _ c.actor_of-actor.ensures c.in-Err.ensures.frame);
+  why = search rules;
+}
