@@ -1,8 +1,8 @@
 -- What a step owes to its pace: who does what next, whose pages moved, and that it led nearer to something that is done.
-use Rattle.std.proofs.Common.{◌≡◌, ◌≢◌, ℕ, zero, suc, ◌+◌, ◌<◌, ◌≤◌, List, [], ◌∷◌, length, map, set, get_or, Bool, true, false, refl, sym, ◌∙◌, ap, subst, arith, inl, inr, nat_le, nat_lt, Option, Some}
-use Rattle.std.specs.Prelude.{◌⊎◌, ◌++◌, if◌then◌else◌, None}
+use Rattle.std.proofs.Common.{◌≡◌, ℕ, zero, suc, ◌+◌, ◌<◌, ◌≤◌, List, [], ◌∷◌, length, set, get_or, Bool, true, false, refl, sym, ◌∙◌, ap, subst, arith, inl, inr, nat_le, Option, Some}
+use Rattle.std.specs.Prelude.{◌++◌}
 use Rattle.std.proofs.lemmas.Bool.Decides.{nat_tests}
-use Rattle.std.proofs.lemmas.List.{get_or-map, get_or_past, map-set, set-get_or, set-set, length-append}
+use Rattle.std.proofs.lemmas.List.{get_or-map, map-set, set-get_or, set-set, length-append}
 use Rattle.store_api.specs.Effects.{GoesOn, IsHeld, TakesBack, Undoes}
 use Rattle.journal_model.proofs.BaseLemmas.{at_same}
 use Rattle.journal_model.specs.declared.journal.Entry.{Entry}
@@ -11,25 +11,20 @@ use Rattle.store_api.specs.Frames.{Frame, GrowingFrame, StillFrame}
 use Rattle.store_api.specs.View.{View, Content, Holding}
 use Rattle.dby_types.specs.declared.number.RowId.{RowId}
 use Rattle.dby_types.specs.declared.value.Value.{Value}
-use Rattle.store_api.specs.Order.{is_behind}
 use Rattle.store_api.specs.declared.slot.Item.{Item}
 use Rattle.store_api.specs.declared.slot.Item.TheVariants.{Created, Discarded}
 use Rattle.store_api.specs.declared.answers.Undo.TheVariants as undo
 use Rattle.lock_modes.specs.declared.mode.Mode.{Mode}
 use Rattle.lock_modes.specs.declared.name.LockName.{LockName}
 use Rattle.session_model.specs.declared.order.Order.{Order}
-use Rattle.dby_types.specs.declared.state.SqlState.{SqlState}
-use Rattle.session_engine.specs.Asking.{behind, in_want, wanted}
-use Rattle.session_engine.specs.Filling.{run_out}
+use Rattle.session_engine.specs.Asking.{behind, wanted}
 use Rattle.session_engine.specs.Scanning.{IsWithheld, TurnsTo}
 use Rattle.session_engine.specs.declared.scanning.Sought.TheVariants as sought
 use Rattle.session_engine.specs.Binding.{bound_phase}
 use Rattle.session_engine.specs.Blocking.{HasWhy}
-use Rattle.session_engine.specs.Pacing.{asks, gets_done, claims, Acts, ComesOn, IsDone, Leads, LooksBehind, Paces, Passes, Shrinks, is_way, stage, next_at, next_in, next_of, next_of_fill, next_of_make, next_of_plan, next_of_rows, next_of_scan, nexts_of, rank, waits}
+use Rattle.session_engine.specs.Pacing.{asks, gets_done, claims, Acts, ComesOn, IsDone, Leads, Paces, Passes, is_way, stage, next_at, next_in, next_of, next_of_fill, next_of_plan, next_of_rows, next_of_scan, nexts_of, rank, waits}
 use Rattle.session_engine.specs.Stepped.{IsFinished, IsHalt, IsNoted, IsTold}
-use Rattle.session_engine.specs.declared.next.Build.{Build}
 use Rattle.session_engine.specs.declared.next.Build.TheVariants as build
-use Rattle.session_engine.specs.declared.next.Close.{Close}
 use Rattle.session_engine.specs.declared.next.Close.TheVariants as close
 use Rattle.session_engine.specs.declared.next.Next.{Next}
 use Rattle.session_engine.specs.declared.next.Next.TheVariants as next

@@ -1,16 +1,12 @@
-use Rattle.std.proofs.Common.{rules, ◌≡◌, ◌<◌, length, refl, sym, ◌∙◌, ap, subst, arith}
+use Rattle.std.proofs.Common.{rules, ◌<◌, length, refl, sym, ◌∙◌, ap, subst, arith}
 use Rattle.session_engine.specs.Engine.{state}
 use Rattle.session_engine.specs.Scanning.{IsSought}
 use Rattle.session_engine.specs.declared.session.Plan.TheVariants as plan
-use Rattle.session_engine.specs.declared.session.Session.{Session}
 use Rattle.session_engine.proofs.CountLemmas.{may_hold}
 use Rattle.session_engine.proofs.ReadLemmas.{Reading, scan_described, scan_finds, scan_stays, scan_starves, scan_goes, scan_fails, working_owes}
 use Rattle.session_engine.specs.declared.next.Next.TheVariants as next
 use Rattle.session_engine.specs.declared.next.Work.TheVariants as work
 use Rattle.session_engine.specs.declared.scanning.Sought.TheVariants as sought
-use Rattle.session_engine.specs.declared.step.Event.TheVariants as event
-use Rattle.session_engine.specs.declared.step.Step.TheVariants.{Blocked}
-use Rattle.session_engine.specs.Scanning.{TurnsTo}
 use Rattle.session_engine.proofs.KeptLemmas.{kept_scripts}
 use Rattle.session_engine.proofs.PaceLemmas.{acts_frame, here_inside, looks_from, paces_stopped}
 use Rattle.session_engine.proofs.engine.Engine.seek.Goals as goal
