@@ -214,7 +214,7 @@ still_left scripts c answer es es' ns ns' v v' ways grows ended still none bare 
 
 -- A STEP of an engine that may have stopped
 pub any_step_left : (scripts : List (List ℕ)) (c : ℕ) (answer : Step) (es es' : List Entry) (ns ns' : List Next) (v v' : View) (ways : ℕ → ℕ) (stop : Option Stop) → 1 ≤ c → c ≤ length ns → Grows c answer es es' → (answer ≡ Ended → HasEnded scripts es' c)
-    → (stop ≡ None → (k : ℕ) → k + 1 ≡ c → Paces k answer ns ns' v v') → ((s : Stop) → stop ≡ Some s → (answer ≡ Stopped s) × (ns' ≡ ns) × (v' ≡ v))
+    → (stop ≡ None → (k : ℕ) → k + 1 ≡ c → Paces k answer ns ns' es es' v v') → ((s : Stop) → stop ≡ Some s → (answer ≡ Stopped s) × (ns' ≡ ns) × (v' ≡ v))
     → AreBounded v → AreBounded v' → AreFew ways ns v → Leaves (λ new. IsStep scripts c (seen es ns v ways) new answer) es' ns' v'
 any_step_left scripts zero answer es es' ns ns' v v' ways stop one known grows ended paces still bounded bounded' few = absurd (omega (arith, one))
 any_step_left scripts (suc k) answer es es' ns ns' v v' ways None one known grows ended paces still bounded bounded' few =

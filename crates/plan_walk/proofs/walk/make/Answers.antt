@@ -17,4 +17,4 @@ returns-else-connection-eq0-clause-step g c = λ ways few.
     let one : 1 ≤ c.args.connection = (let ne = c.if-connection-eq0.false in omega (arith, ne)) in
     let step = c.step-step.ensures in
     any_step_left c.args.engine.now.0 c.args.connection c.step-step.result c.args.engine.now.1 c.step-step.new.self.1 c.args.engine.now.5 c.step-step.new.self.5 (g.S.RowStore.view c.args.engine.now.3) (g.S.RowStore.view c.step-step.new.self.3) ways c.args.engine.now.4
-    one (let known = c.args.requires.known in let all = c.law.ensures.all in omega (arith, known, all)) step.grows (λ e. subst (λ ss. HasEnded ss c.step-step.new.self.1 c.args.connection) step.same (step.ended e)) step.paces (λ s e. ((step.still s e).0, ap (λ x. x.5) (step.still s e).1, ap (λ x. g.S.RowStore.view x.3) (step.still s e).1)) c.law.ensures.sound.turns c.law-else-connection-eq0.ensures.sound.turns few
+    one (let known = c.requires.known in let all = c.law.ensures.all in omega (arith, known, all)) step.grows (λ e. subst (λ ss. HasEnded ss c.step-step.new.self.1 c.args.connection) step.same (step.ended e)) step.paces (λ s e. ((step.still s e).0, ap (λ x. x.5) (step.still s e).1, ap (λ x. g.S.RowStore.view x.3) (step.still s e).1)) c.law.ensures.sound.turns c.law-else-connection-eq0.ensures.sound.turns few
