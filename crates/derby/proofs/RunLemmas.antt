@@ -23,7 +23,7 @@ use Rattle.derby.specs.Running.{EndsBy, IsJournal, NotStopped, RunIf}
 
 -- at first nothing was spent
 journal_of : (scripts : List (List ℕ)) (lines : List StepLine) (how : Walked) (store v : View) (es : List Entry) (ns ns' : List Next) (journal : Journal) → IsEmptyStore store
-    → ((ways : ℕ → ℕ) → AreFew ways ns store → Leaves (λ new. IsWalk scripts lines (seen [] store ways) new how) es ns' v)
+    → ((ways : ℕ → ℕ) → AreFew ways ns store → Leaves (λ new. IsWalk scripts lines (seen [] ns store ways) new how) es ns' v)
     → IsLegal no_tables scripts journal.entries journal.locks → Ends es journal.entries → AllAtRest (length scripts) journal.entries → IsJournal scripts lines how journal
 journal_of scripts lines how store v es ns ns' journal empty walk legal ends rest =
     let walked = walk (λ c. 0) (λ c. omega arith) in
@@ -31,21 +31,22 @@ journal_of scripts lines how store v es ns ns' journal empty walk legal ends res
       legal = legal;
       store = store;
       empty = empty;
-      walked = seen es v walked.ways;
+      firsts = ns;
+      walked = seen es ns' v walked.ways;
       walk = walked.does;
       ends = ends;
       rest = rest;
     }
 
 pub ran : (scripts : List (List ℕ)) (lines : List StepLine) (how : Walked) (ending : Ending) (store v : View) (es es' : List Entry) (ns ns' : List Next) (journal : Journal) → EndsBy how ending → es ≡ [] → IsEmptyStore store
-    → ((ways : ℕ → ℕ) → AreFew ways ns store → Leaves (λ new. IsWalk scripts lines (seen es store ways) new how) es' ns' v)
+    → ((ways : ℕ → ℕ) → AreFew ways ns store → Leaves (λ new. IsWalk scripts lines (seen es ns store ways) new how) es' ns' v)
     → IsLegal no_tables scripts journal.entries journal.locks → Ends es' journal.entries → AllAtRest (length scripts) journal.entries → RunIf ending scripts lines (Some journal)
 ran scripts lines Whole ending store v es es' ns ns' journal is none empty walk legal ends rest =
     subst (λ (e : Ending). RunIf e scripts lines (Some journal)) (sym is) (journal_of scripts lines Whole store v es' ns ns' journal empty
-    (subst (λ (xs : List Entry). (ways : ℕ → ℕ) → AreFew ways ns store → Leaves (λ new. IsWalk scripts lines (seen xs store ways) new Whole) es' ns' v) none walk) legal ends rest)
+    (subst (λ (xs : List Entry). (ways : ℕ → ℕ) → AreFew ways ns store → Leaves (λ new. IsWalk scripts lines (seen xs ns store ways) new Whole) es' ns' v) none walk) legal ends rest)
 ran scripts lines Memory ending store v es es' ns ns' journal is none empty walk legal ends rest =
     subst (λ (e : Ending). RunIf e scripts lines (Some journal)) (sym is) (journal_of scripts lines Memory store v es' ns ns' journal empty
-    (subst (λ (xs : List Entry). (ways : ℕ → ℕ) → AreFew ways ns store → Leaves (λ new. IsWalk scripts lines (seen xs store ways) new Memory) es' ns' v) none walk) legal ends rest)
+    (subst (λ (xs : List Entry). (ways : ℕ → ℕ) → AreFew ways ns store → Leaves (λ new. IsWalk scripts lines (seen xs ns store ways) new Memory) es' ns' v) none walk) legal ends rest)
 ran scripts lines (Stopped stop) ending store v es es' ns ns' journal is none empty walk legal ends rest = absurd is
 
 -- A STORE IN MEMORY keeps no failure: neither a walk of it stops, nor its closing

@@ -3,6 +3,7 @@ use Rattle.std.specs.Prelude.{◌≡◌, ◌==◌, ℕ, List, [], length, Option
 use Rattle.table_model.specs.Tables.{no_tables}
 use Rattle.store_api.specs.View.{View}
 use Rattle.session_engine.specs.Opening.{IsEmptyStore}
+use Rattle.session_engine.specs.declared.next.Next.{Next}
 use Rattle.engine_close.specs.Closing.{AllAtRest, Ends}
 use Rattle.session_model.specs.declared.journal.Journal.{Journal}
 use Rattle.session_model.specs.Legal.{IsLegal}
@@ -19,11 +20,12 @@ use Rattle.derby.specs.Inputs.{AreInputs}
 -- takes back, so that no transaction is open
 pub record IsJournal (scripts : List (List ℕ)) (lines : List StepLine) (how : Walked) (journal : Journal) : Type 0 where
   pub legal : IsLegal no_tables scripts journal.entries journal.locks
-  -- the store as it was opened, of which nobody holds a page, and what was seen behind the walk
+  -- the store as it was opened, of which nobody holds a page, what each connection does first, and what was seen behind the walk
   pub store : View
   pub empty : IsEmptyStore store
+  pub firsts : List Next
   pub walked : Seen
-  pub walk : IsWalk scripts lines (seen [] store (λ c. 0)) walked how
+  pub walk : IsWalk scripts lines (seen [] firsts store (λ c. 0)) walked how
   pub ends : Ends walked.entries journal.entries
   pub rest : AllAtRest (length scripts) journal.entries
 

@@ -142,19 +142,19 @@ caused_as (Some NoMemory) how v is shown = subst (λ (w : Walked). HasCause w v)
 
 -- THE SAME of an engine, whatever was counted before: from one state of it to another
 abbrev pub Does : (P : Seen → Seen → Type 0) (es es' : List Entry) (ns ns' : List Next) (v v' : View) → Type 0
-Does P es es' ns ns' v v' = (ways : ℕ → ℕ) → AreFew ways ns v → Leaves (λ new. P (seen es v ways) new) es' ns' v'
+Does P es es' ns ns' v v' = (ways : ℕ → ℕ) → AreFew ways ns v → Leaves (λ new. P (seen es ns v ways) new) es' ns' v'
 
 -- one thing behind another
 pub then_does : (P Q R : Seen → Seen → Type 0) (es mid es' : List Entry) (ns ms ns' : List Next) (v u v' : View) → ((old new last : Seen) → P old new → Q new last → R old last) → Does P es mid ns ms v u → Does Q mid es' ms ns' u v' → Does R es es' ns ns' v v'
 then_does P Q R es mid es' ns ms ns' v u v' join first second = λ ways few.
     let one = first ways few in
     let two = second one.ways one.few in
-    record { ways = two.ways; few = two.few; does = join (seen es v ways) (seen mid u one.ways) (seen es' v' two.ways) one.does two.does }
+    record { ways = two.ways; few = two.few; does = join (seen es ns v ways) (seen mid ms u one.ways) (seen es' ns' v' two.ways) one.does two.does }
 
 pub turn_does : (P R : Seen → Seen → Type 0) (es es' : List Entry) (ns ns' : List Next) (v v' : View) → ((old new : Seen) → P old new → R old new) → Does P es es' ns ns' v v' → Does R es es' ns ns' v v'
 turn_does P R es es' ns ns' v v' turn h = λ ways few.
     let one = h ways few in
-    record { ways = one.ways; few = one.few; does = turn (seen es v ways) (seen es' v' one.ways) one.does }
+    record { ways = one.ways; few = one.few; does = turn (seen es ns v ways) (seen es' ns' v' one.ways) one.does }
 
 pub starts : (scripts : List (List ℕ)) (c : ℕ) (es : List Entry) (ns : List Next) (v : View) → Does (λ old new. Goes scripts c 0 old new) es es ns ns v v
 starts scripts c es ns v = λ ways few. record { ways = ways; few = few; does = refl }

@@ -2,7 +2,7 @@
 use Rattle.std.specs.Prelude.{◌≡◌, ◌≢◌, ◌≤◌, ◌<◌, ◌+◌, ◌*◌, ◌++◌, ℕ, zero, suc, Bool, true, false, List, [], ◌∷◌, Option, Some, None, if◌then◌else◌}
 use Rattle.store_api.specs.View.{View}
 use Rattle.journal_model.specs.declared.journal.Entry.{Entry}
-use Rattle.session_engine.specs.Pacing.{Acts, is_way, next_at, rank, waits}
+use Rattle.session_engine.specs.Pacing.{Acts, ComesOn, IsDone, claims, is_way, next_at, rank, waits}
 use Rattle.session_engine.specs.declared.next.Next.{Next}
 use Rattle.session_engine.specs.Stepped.{Grows, HasEnded, Shows, stop_after}
 use Rattle.session_engine.specs.declared.step.Event.{Event}
@@ -13,23 +13,28 @@ use Rattle.step_plan.specs.declared.plan.StepLine.{StepLine}
 use Rattle.plan_walk.specs.declared.walk.Walked.{Walked}
 use Rattle.plan_walk.specs.declared.walk.Walked.TheVariants.{Whole, Stopped as HasStopped, Memory}
 
--- WHAT IS SEEN between two steps: the journal, the store, and how many of each connection's last steps were only on the way to something that is done
+-- WHAT IS SEEN between two steps: the journal, what each connection does next, the store, and how many of each connection's last steps were
+-- only on the way to something that is done
 pub record Seen : Type 0 where
   pub entries : List Entry
+  pub nexts : List Next
   pub store : View
   pub ways : ℕ → ℕ
 
-abbrev pub seen : List Entry → View → (ℕ → ℕ) → Seen
-seen entries store ways = record { entries = entries; store = store; ways = ways }
+abbrev pub seen : List Entry → List Next → View → (ℕ → ℕ) → Seen
+seen entries nexts store ways = record { entries = entries; nexts = nexts; store = store; ways = ways }
 
 -- one step on the way more, or something was done
 abbrev pub ways_after : Step → ℕ → ℕ
 ways_after answer n = if is_way answer then n + 1 else 0
 
--- ONE STEP of connection c, or of the daemon, 0: the journal grows by what comes with the answer; Ended is the answer of a connection that has
--- ended; only c's own pages moved, by one more at most; and no connection spends its steps on nothing
+-- ONE STEP of connection c, or of the daemon, 0: the journal grows by what is c's and comes with the answer; Ended is the answer of a connection
+-- that has ended; only c moved, and its own pages, by one more at most; what the answer tells of was done; and no connection spends its steps on nothing
 pub record IsStep (scripts : List (List ℕ)) (c : ℕ) (old new : Seen) (answer : Step) : Type 0 where
-  pub grows : Grows answer old.entries new.entries
+  pub grows : Grows c answer old.entries new.entries
+  pub moves : (k : ℕ) → k + 1 ≢ c → next_at new.nexts k ≡ next_at old.nexts k
+  pub comes : (k : ℕ) → k + 1 ≡ c → is_way answer ≡ true → ComesOn (next_at new.nexts k) (next_at old.nexts k)
+  pub does : (k : ℕ) → k + 1 ≡ c → claims answer ≡ true → IsDone (next_at old.nexts k) (next_at new.nexts k) old.entries new.entries old.store new.store
   pub ended : answer ≡ Ended → 1 ≤ c → HasEnded scripts new.entries c
   pub acts : Acts c old.store new.store
   pub bare : waits answer ≡ true → (new.store.actors c).pages ≡ 0
@@ -51,7 +56,7 @@ AreFew ways nexts v = (c : ℕ) → ways (c + 1) ≤ most (rank (next_at nexts c
 pub record Leaves (P : Seen → Type 0) (entries : List Entry) (nexts : List Next) (v : View) : Type 0 where
   pub ways : ℕ → ℕ
   pub few : AreFew ways nexts v
-  pub does : P (seen entries v ways)
+  pub does : P (seen entries nexts v ways)
 
 -- so many steps, of which each went
 abbrev pub Goes : List (List ℕ) → ℕ → ℕ → Seen → Seen → Type 0

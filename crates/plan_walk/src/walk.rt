@@ -33,7 +33,7 @@ fn make<S: RowStore + Drop>(engine: &mut Engine<S>, connection: usize) -> Step
     requires known { connection ≤ length engine.old.0 }
     requires small { length engine.old.0 < 2 ^ 32 }
     ensures same { engine.new.0 ≡ engine.old.0 }
-    ensures step { (ways : ℕ → ℕ) → AreFew ways engine.old.5 (S.view engine.old.3) → Leaves (λ new. IsStep engine.old.0 connection (seen engine.old.1 (S.view engine.old.3) ways) new result) engine.new.1 engine.new.5 (S.view engine.new.3) }
+    ensures step { (ways : ℕ → ℕ) → AreFew ways engine.old.5 (S.view engine.old.3) → Leaves (λ new. IsStep engine.old.0 connection (seen engine.old.1 engine.old.5 (S.view engine.old.3) ways) new result) engine.new.1 engine.new.5 (S.view engine.new.3) }
     ensures stops { engine.new.4 ≡ stop_after result engine.old.4 }
     ensures cause { engine.old.4 ≡ None → HasStopped result (S.view engine.new.3) }
 {
@@ -52,7 +52,7 @@ fn walk_line<S: RowStore + Drop>(engine: &mut Engine<S>, line: StepLine) -> Opti
     requires known { line.connection ≤ length engine.old.0 }
     requires small { length engine.old.0 < 2 ^ 32 }
     ensures same { engine.new.0 ≡ engine.old.0 }
-    ensures line { (ways : ℕ → ℕ) → AreFew ways engine.old.5 (S.view engine.old.3) → Leaves (λ new. IsLine engine.old.0 line (seen engine.old.1 (S.view engine.old.3) ways) new result) engine.new.1 engine.new.5 (S.view engine.new.3) }
+    ensures line { (ways : ℕ → ℕ) → AreFew ways engine.old.5 (S.view engine.old.3) → Leaves (λ new. IsLine engine.old.0 line (seen engine.old.1 engine.old.5 (S.view engine.old.3) ways) new result) engine.new.1 engine.new.5 (S.view engine.new.3) }
     ensures stops { engine.new.4 ≡ stop_behind result engine.old.4 }
     ensures cause { engine.old.4 ≡ None → IfSome result (λ answer. HasStopped answer (S.view engine.new.3)) }
 {
@@ -81,7 +81,7 @@ pub fn walk<S: RowStore + Drop>(engine: &mut Engine<S>, plan: &Plan) -> Walked
     requires known { plan.now.scripts ≡ length engine.old.0 }
     requires small { length engine.old.0 < 2 ^ 32 }
     ensures same { engine.new.0 ≡ engine.old.0 }
-    ensures walk { (ways : ℕ → ℕ) → AreFew ways engine.old.5 (S.view engine.old.3) → Leaves (λ new. IsWalk engine.old.0 plan.now.lines (seen engine.old.1 (S.view engine.old.3) ways) new result) engine.new.1 engine.new.5 (S.view engine.new.3) }
+    ensures walk { (ways : ℕ → ℕ) → AreFew ways engine.old.5 (S.view engine.old.3) → Leaves (λ new. IsWalk engine.old.0 plan.now.lines (seen engine.old.1 engine.old.5 (S.view engine.old.3) ways) new result) engine.new.1 engine.new.5 (S.view engine.new.3) }
     ensures stops { engine.new.4 ≡ stop_left result engine.old.4 }
     ensures cause { engine.old.4 ≡ None → HasCause result (S.view engine.new.3) }
 {

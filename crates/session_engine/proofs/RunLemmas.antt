@@ -1,10 +1,12 @@
 -- What the public step knows of its connection.
-use Rattle.std.proofs.Common.{◌≡◌, ℕ, zero, suc, ◌+◌, ◌<◌, ◌≤◌, List, [], ◌∷◌, length, get_or, Bool, true, false, refl, sym, ◌∙◌, ap, arith, nat_le}
+use Rattle.std.proofs.Common.{◌≡◌, ℕ, zero, suc, ◌+◌, ◌<◌, ◌≤◌, List, [], ◌∷◌, length, get_or, Bool, true, false, refl, sym, ◌∙◌, ap, subst, arith, nat_le}
 use Rattle.std.proofs.lemmas.Bool.Decides.{nat_tests}
 use Rattle.sql_lexer.specs.Splitting.{spans_of}
 use Rattle.session_engine.specs.declared.session.Phase.{Phase}
 use Rattle.session_engine.specs.declared.session.Phase.TheVariants.{Idle, Resting, Asking, Preparing, Claiming, Working, Refusing, Committing, Forcing, Acknowledging, Leaving}
 use Rattle.session_engine.specs.declared.session.Session.{Session}
+use Rattle.session_engine.specs.declared.next.Next.{Next}
+use Rattle.session_engine.specs.Pacing.{nexts_of}
 use Rattle.session_engine.specs.State.{State, Holds, scripts_of, world_of}
 use Rattle.session_engine.specs.Stepped.{HasEnded, NotEnded, ends_now}
 use Rattle.session_engine.specs.declared.step.Step.{Step}
@@ -19,6 +21,13 @@ scripts_length (s ∷ ss) = ap suc (scripts_length ss)
 
 pub within : (ss : List Session) (k : ℕ) → k < length (scripts_of ss) → k < length ss
 within ss k lt = let same = scripts_length ss in omega (arith, lt, same)
+
+nexts_length : (ss : List Session) → length (nexts_of ss) ≡ length ss
+nexts_length [] = refl
+nexts_length (s ∷ ss) = ap suc (nexts_length ss)
+
+pub both_lengths : {B C D E : Type 0} (ss : List Session) (v : List (List ℕ) × B × C × D × E × List Next) (b : B) (c : C) (d : D) (e : E) → (scripts_of ss, b, c, d, e, nexts_of ss) ≡ v → length v.5 ≡ length v.0
+both_lengths {B = B} {C = C} {D = D} {E = E} ss v b c d e same = subst (λ (w : List (List ℕ) × B × C × D × E × List Next). length w.5 ≡ length w.0) same (nexts_length ss ∙ sym (scripts_length ss))
 
 script_at : (ss : List Session) (k : ℕ) (r : Session) (d : List ℕ) → k < length ss → r ≡ get_or ss k r → get_or (scripts_of ss) k d ≡ r.script
 script_at [] k r d lt at = absurd (omega arith)

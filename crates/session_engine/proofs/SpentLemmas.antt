@@ -1,6 +1,5 @@
 -- A connection that is closed has begun all its statements.
 use Rattle.std.proofs.Common.{◌≡◌, ℕ, zero, suc, ◌<◌, ◌≤◌, Bool, List, [], ◌∷◌, length, set, get_or, true, false, refl, sym, ◌∙◌, ap, subst, arith}
-use Rattle.std.proofs.lemmas.List.{get_or-set_same, get_or-set_other, length-set}
 use Rattle.session_engine.specs.declared.session.Session.{Session}
 use Rattle.sql_lexer.specs.declared.token.Span.{Span}
 use Rattle.table_model.specs.Tables.{Each}

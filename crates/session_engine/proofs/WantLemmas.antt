@@ -27,7 +27,7 @@ use Rattle.journal_model.specs.declared.journal.Refusal.{Refusal}
 use Rattle.journal_model.specs.declared.journal.Refusal.TheVariants.{Memory}
 use Rattle.session_model.specs.declared.order.Order.{Order}
 use Rattle.session_model.specs.Legal.{Wants, IsPurpose, dictionary_mode}
-use Rattle.session_model.specs.Places.{Others, ReadsCatalog, locks_of, guard}
+use Rattle.session_model.specs.Places.{ReadsCatalog, locks_of, guard}
 use Rattle.session_model.specs.World.{World, Stage, running, seen, is_untold}
 use Rattle.session_engine.specs.declared.session.Phase.{Phase}
 use Rattle.session_engine.specs.declared.session.Phase.TheVariants.{Idle, Resting, Asking, Preparing, Claiming, Working, Refusing, Committing, Forcing, Acknowledging, Leaving}

@@ -1,6 +1,5 @@
 -- Why a connection waits.
-use Rattle.std.specs.Prelude.{◌≡◌, ◌≢◌, ℕ, List, Some, true}
-use Rattle.dby_types.specs.declared.number.RowId.{RowId}
+use Rattle.std.specs.Prelude.{◌≡◌, ℕ, List, Some, true}
 use Rattle.dby_types.specs.declared.number.TxnNo.{TxnNo}
 use Rattle.lock_modes.specs.Lock.{lock_of}
 use Rattle.lock_modes.specs.Waits.{waits_for}

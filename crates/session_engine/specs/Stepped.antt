@@ -1,13 +1,13 @@
 -- What a step leaves of the engine's journal, how it ended, and why it stopped.
-use Rattle.std.specs.Prelude.{◌≡◌, ◌+◌, ◌≤◌, ◌++◌, ℕ, slice_index_or, Bool, true, false, List, length, Option, Some, None}
+use Rattle.std.specs.Prelude.{◌≡◌, ◌+◌, ◌≤◌, ◌++◌, ℕ, slice_index_or, Bool, true, false, List, [], ◌∷◌, length, Option, Some, None}
 use Rattle.table_model.specs.Tables.{Each, no_tables}
 use Rattle.store_api.specs.View.{View}
 use Rattle.store_api.specs.declared.answers.StoreAnswer.{StoreAnswer}
-use Rattle.store_api.specs.declared.answers.StoreAnswer.TheVariants.{Failed, Damaged}
+use Rattle.store_api.specs.declared.answers.StoreAnswer.TheVariants.{Failed, Damaged, Memory as NoMemory}
 use Rattle.journal_model.specs.declared.journal.Entry.{Entry}
 use Rattle.journal_model.specs.declared.journal.Entry.TheVariants as entry
 use Rattle.sql_lexer.specs.Splitting.{spans_of}
-use Rattle.session_model.specs.World.{opening, replay}
+use Rattle.session_model.specs.World.{World, apply, opening, replay}
 use Rattle.session_engine.specs.declared.next.Next.{Next}
 use Rattle.session_engine.specs.declared.next.Next.TheVariants.{End}
 use Rattle.session_engine.specs.declared.session.Phase.{Phase}
@@ -64,12 +64,44 @@ abbrev pub most_of : Step → ℕ
 most_of (Went Begin) = 2
 most_of _ = 1
 
--- THE JOURNAL GROWS at its end, by few entries that come with the answer
-pub record Grows (result : Step) (old new : List Entry) : Type 0 where
+-- and how few: an answer that tells of an entry has put one
+abbrev pub least_of : Step → ℕ
+least_of (Went Begin) = 1
+least_of (Went Rollback) = 1
+least_of (Went Finish) = 1
+least_of (Went Append) = 1
+least_of Answered = 1
+least_of _ = 0
+
+-- the transaction of an entry
+abbrev pub txn_in : Entry → ℕ
+txn_in (entry.Started t c l s) = t.0
+txn_in (entry.Did t n r old new) = t.0
+txn_in (entry.Undone t d) = t.0
+txn_in (entry.Answered t a j f u) = t.0
+txn_in (entry.Refused t w) = t.0
+txn_in (entry.Committed t) = t.0
+txn_in (entry.Acknowledged t) = t.0
+txn_in (entry.RolledBack t) = t.0
+
+-- WHOSE AN ENTRY IS: of the connection that begins a statement, or whose the transaction is
+abbrev pub IsOwn : (c : ℕ) → World → Entry → Type 0
+IsOwn c w (entry.Started t k l s) = k.0 ≡ c
+IsOwn c w e = (w.txns (txn_in e)).conn ≡ c
+
+-- entries one behind another
+abbrev pub AreOwn : (c : ℕ) → World → List Entry → Type 0
+AreOwn c w [] = Unit {0}
+AreOwn c w (e ∷ es) = IsOwn c w e × AreOwn c (apply w e) es
+
+-- THE JOURNAL GROWS at its end, by few entries, of connection c, that come with the answer
+pub record Grows (c : ℕ) (result : Step) (old new : List Entry) : Type 0 where
   pub added : List Entry
   pub at_end : new ≡ old ++ added
   pub few : length added ≤ most_of result
+  pub least : least_of result ≤ length added
   pub kinds : Each (λ e. comes_in result e ≡ true) added
+  pub own : AreOwn c (replay (opening no_tables) old) added
 
 -- what the engine has stopped for
 abbrev pub stop_after : Step → Option Stop → Option Stop
@@ -85,11 +117,27 @@ abbrev pub HasStopped : Step → View → Type 0
 HasStopped (Stopped s) v = Shows s v
 HasStopped _ v = Unit {0}
 
--- an answer of the store that it keeps for good
+-- an answer of the store that it keeps for good, and for which the engine stops
+abbrev pub HaltsFor : View → StoreAnswer → Type 0
+HaltsFor v Failed = v.meters.keeps ≡ Some Failed
+HaltsFor v (Damaged d) = v.meters.keeps ≡ Some (Damaged d)
+HaltsFor v _ = ⊥
+
+-- the same, or want of memory
+abbrev pub Refuses : View → StoreAnswer → Type 0
+Refuses v NoMemory = Unit {0}
+Refuses v answer = HaltsFor v answer
+
+-- an answer that it keeps, or any other
 abbrev pub KeepsFor : View → StoreAnswer → Type 0
 KeepsFor v Failed = v.meters.keeps ≡ Some Failed
 KeepsFor v (Damaged d) = v.meters.keeps ≡ Some (Damaged d)
 KeepsFor v _ = Unit {0}
+
+-- it has stopped in this step
+abbrev pub IsHalt : Step → Type 0
+IsHalt (Stopped s) = Unit {0}
+IsHalt _ = ⊥
 
 abbrev pub NotEnded : Step → Type 0
 NotEnded Ended = ⊥

@@ -1,10 +1,9 @@
 //! The step in which a statement asks for a lock.
 
-ghost use Rattle.std.specs.Prelude.{◌≡◌, ◌+◌};
+ghost use Rattle.std.specs.Prelude.{◌≡◌, ◌+◌, true};
 ghost use Rattle.session_engine.specs.Stepped.{Grows, HasStopped, NotEnded, stop_after};
 ghost use Rattle.session_engine.specs.Blocking.{HasWhy};
-ghost use Rattle.session_engine.specs.Pacing.{Paces, next_at};
-ghost use Rattle.session_engine.specs.declared.next.Next.TheVariants.{Ask};
+ghost use Rattle.session_engine.specs.Pacing.{Paces, asks, next_at};
 
 use crate::asking::{behind, room_to_ask, starve, wanted};
 use crate::engine::{Engine, actor_of, put};
@@ -16,15 +15,15 @@ use store_api::store::RowStore;
 
 impl<S: RowStore> Engine<S> {
     /// The lock that the statement needs next is granted at once, or its request is queued, or was granted since.
-    #[tactic(auto, using(crate::proofs::KeptLemmas::kept_scripts, crate::proofs::KeptLemmas::grows_none, crate::proofs::PaceLemmas::paces_done, crate::proofs::PaceLemmas::why_done, crate::proofs::PaceLemmas::acts_none, crate::proofs::PaceLemmas::paces_granted, crate::proofs::PaceLemmas::paces_blocked, crate::proofs::PaceLemmas::acts_frame, crate::proofs::PaceLemmas::paces_waits, crate::proofs::WantLemmas::why_queued))]
+    #[tactic(auto, using(crate::proofs::KeptLemmas::kept_scripts, crate::proofs::KeptLemmas::grows_none, crate::proofs::PaceLemmas::paces_gives, crate::proofs::PaceLemmas::paces_woken, crate::proofs::PaceLemmas::why_done, crate::proofs::PaceLemmas::acts_none, crate::proofs::PaceLemmas::paces_granted, crate::proofs::PaceLemmas::paces_blocked, crate::proofs::PaceLemmas::acts_frame, crate::proofs::PaceLemmas::paces_waits, crate::proofs::WantLemmas::why_queued))]
     pub(crate) fn ask(&mut self, c: usize) -> Step
-        requires here { next_at self.old.5 c ≡ Ask }
+        requires here { asks (next_at self.old.5 c) ≡ true }
         ensures same { self.new.0 ≡ self.old.0 }
-        ensures grows { Grows result self.old.1 self.new.1 }
+        ensures grows { Grows (c + 1) result self.old.1 self.new.1 }
         ensures stops { self.new.4 ≡ stop_after result self.old.4 }
         ensures cause { HasStopped result (S.view self.new.3) }
         ensures goes { NotEnded result }
-        ensures paces { Paces c result self.old.5 self.new.5 (S.view self.old.3) (S.view self.new.3) }
+        ensures paces { Paces c result self.old.5 self.new.5 self.old.1 self.new.1 (S.view self.old.3) (S.view self.new.3) }
         ensures why { HasWhy (c + 1) result self.new.1 self.new.2 (S.view self.old.3) }
     {
         if c >= self.sessions.len() {

@@ -8,7 +8,7 @@ ghost use Rattle.store_api.specs.Effects.{IsOpen, MayDescribe};
 ghost use Rattle.store_api.specs.View.{MayHold};
 ghost use Rattle.session_engine.specs.Creating.{Stays, Remains, IsTaken, IsContained, IsDescribedBy, IsBare, TurnsIn};
 ghost use Rattle.session_engine.specs.Pacing.{Acts};
-ghost use Rattle.session_engine.specs.Stepped.{KeepsFor};
+ghost use Rattle.session_engine.specs.Stepped.{Refuses};
 
 use crate::session::{Make, Plan, Session};
 use dby_types::definition::{ColumnDef, TableDef};
@@ -80,14 +80,14 @@ pub(crate) fn take_unmade(session: &mut Session) -> Option<Make>
 }
 
 /// The rows of a container are a table's from now on.
-#[tactic(auto, using(crate::proofs::KeptLemmas::keeps_for))]
+#[tactic(auto, using(crate::proofs::KeptLemmas::refuses_for))]
 fn describe<S: RowStore>(store: &mut S, def: &TableDef) -> Result<(), StoreAnswer>
     requires { MayDescribe (S.view store.old) def.now }
     ensures stays { Remains (S.view store.old) (S.view store.new) }
     ensures pages { (S.view store.new).pages ≡ (S.view store.old).pages }
     ensures ok { OnOk result (IsDescribedBy def.now (S.view store.old) (S.view store.new)) }
     ensures err { IfErr result (λ e. (S.view store.new).content ≡ (S.view store.old).content) }
-    ensures cause { IfErr result (KeepsFor (S.view store.new)) }
+    ensures cause { IfErr result (Refuses (S.view store.new)) }
 {
     match store.describe_table(def) {
         Ok(()) => Ok(()),
@@ -96,7 +96,7 @@ fn describe<S: RowStore>(store: &mut S, def: &TableDef) -> Result<(), StoreAnswe
 }
 
 /// Makes the container of a table, which gives it its number, and describes it.
-#[tactic(auto, using(crate::proofs::KeptLemmas::keeps_for))]
+#[tactic(auto, using(crate::proofs::KeptLemmas::refuses_for, crate::proofs::KeptLemmas::refuses_full, crate::proofs::KeptLemmas::spends_both))]
 pub(crate) fn new_heap<S: RowStore>(
     store: &mut S,
     actor: Actor,
@@ -112,7 +112,7 @@ pub(crate) fn new_heap<S: RowStore>(
     ensures acts { Acts actor (S.view store.old) (S.view store.new) }
     ensures turns { IfOk result (TurnsIn actor (S.view store.old) (S.view store.new)) }
     ensures err { IfErr result (λ e. IsBare txn.0 make.old make.new (S.view store.old) (S.view store.new)) }
-    ensures cause { IfErr result (KeepsFor (S.view store.new)) }
+    ensures cause { IfErr result (Refuses (S.view store.new)) }
 {
     match store.create(actor, txn, false) {
         Ok(Made::Number(n)) => {
@@ -127,8 +127,11 @@ pub(crate) fn new_heap<S: RowStore>(
             }
         }
         Ok(Made::Onward) => Ok(Contained::Onward),
-        Err(StoreAnswer::Full(SqlState::PagesSpent)) => Ok(Contained::NoPages),
-        Err(StoreAnswer::Full(SqlState::LogSpent)) => Ok(Contained::NoLog),
+        Err(StoreAnswer::Full(state)) => match state {
+            SqlState::PagesSpent => Ok(Contained::NoPages),
+            SqlState::LogSpent => Ok(Contained::NoLog),
+            _ => unreachable!(),
+        },
         Err(answer) => Err(answer),
     }
 }

@@ -6,7 +6,7 @@ ghost use Rattle.lock_manager.specs.Table.{lock, woken_of};
 ghost use Rattle.session_engine.specs.Release.{Idles, Released};
 ghost use Rattle.session_engine.specs.Noted.{noted};
 ghost use Rattle.session_engine.specs.Opening.{IsEmptyStore};
-ghost use Rattle.session_engine.specs.Stepped.{Grows, HasStopped, IsFinished, IsNoted, IsTold, KeepsFor, NotEnded, stop_after};
+ghost use Rattle.session_engine.specs.Stepped.{Grows, HaltsFor, HasStopped, IsFinished, IsHalt, IsNoted, IsTold, KeepsFor, NotEnded, stop_after};
 ghost use Rattle.session_engine.specs.declared.step.Event.TheVariants.{Change, Rollback};
 ghost use Rattle.session_model.specs.Legal.{IsLegal};
 ghost use Rattle.store_api.specs.View.{IsSound};
@@ -203,10 +203,11 @@ impl<S: RowStore + Drop> Engine<S> {
 }
 
 impl<S: RowStore> Engine<S> {
-    /// The journal is legal for the scripts, and the store is sound, at any time.
+    /// The journal is legal for the scripts, the store is sound, and each script has a connection, at any time.
     pub fn law(&self)
         ensures legal { IsLegal no_tables self.now.0 self.now.1 self.now.2 }
         ensures sound { IsSound (S.view self.now.3) }
+        ensures all { length self.now.5 ≡ length self.now.0 }
     {
         let _ = self.sessions.is_empty();
         self.store.law();
@@ -236,9 +237,9 @@ impl<S: RowStore> Engine<S> {
         }
     }
 
-    /// The same of a call that may want memory; there is nothing to keep of that.
-    pub(crate) fn note_refused(&mut self, answer: StoreAnswer) -> Step
-        requires { KeepsFor (S.view self.old.3) answer }
+    /// Stops for an answer that the store keeps.
+    pub(crate) fn halt(&mut self, answer: StoreAnswer) -> Step
+        requires { HaltsFor (S.view self.old.3) answer }
         ensures same { self.new.0 ≡ self.old.0 }
         ensures entries { self.new.1 ≡ self.old.1 }
         ensures events { self.new.2 ≡ self.old.2 }
@@ -246,12 +247,16 @@ impl<S: RowStore> Engine<S> {
         ensures nexts { self.new.5 ≡ self.old.5 }
         ensures stops { self.new.4 ≡ stop_after result self.old.4 }
         ensures cause { HasStopped result (S.view self.new.3) }
-        ensures goes { NotEnded result }
-        ensures done { gets_done result ≡ true }
+        ensures halted { IsHalt result }
     {
         match answer {
-            StoreAnswer::Memory => Step::Memory,
-            other => self.note(Err(other), Event::Begin),
+            StoreAnswer::Failed => {
+                let faults = self.store.faults();
+                self.stop_for(Stop::Fault(faults))
+            }
+            StoreAnswer::Damaged(damage) => self.stop_for(Stop::Damage(damage)),
+            StoreAnswer::Full(_) => unreachable!(),
+            StoreAnswer::Memory => unreachable!(),
         }
     }
 
@@ -288,15 +293,15 @@ impl<S: RowStore> Engine<S> {
     }
 
     /// The commit record: from here on the commit stands, and is not durable yet.
-    #[tactic(auto, using(crate::proofs::KeptLemmas::kept_scripts, crate::proofs::KeptLemmas::grows_noted, crate::proofs::KeptLemmas::grows_none, crate::proofs::KeptLemmas::keeps_in, crate::proofs::KeptLemmas::goes_noted, crate::proofs::PaceLemmas::paces_done, crate::proofs::PaceLemmas::why_done, crate::proofs::PaceLemmas::acts_still))]
+    #[tactic(auto, using(crate::proofs::KeptLemmas::kept_scripts, crate::proofs::KeptLemmas::grows_noted, crate::proofs::KeptLemmas::own_conn, crate::proofs::KeptLemmas::keeps_in, crate::proofs::KeptLemmas::goes_noted, crate::proofs::PaceLemmas::paces_put, crate::proofs::PaceLemmas::why_done, crate::proofs::PaceLemmas::acts_still))]
     pub(crate) fn append(&mut self, c: usize) -> Step
         requires here { next_at self.old.5 c ≡ Close Append }
         ensures same { self.new.0 ≡ self.old.0 }
-        ensures grows { Grows result self.old.1 self.new.1 }
+        ensures grows { Grows (c + 1) result self.old.1 self.new.1 }
         ensures stops { self.new.4 ≡ stop_after result self.old.4 }
         ensures cause { HasStopped result (S.view self.new.3) }
         ensures goes { NotEnded result }
-        ensures paces { Paces c result self.old.5 self.new.5 (S.view self.old.3) (S.view self.new.3) }
+        ensures paces { Paces c result self.old.5 self.new.5 self.old.1 self.new.1 (S.view self.old.3) (S.view self.new.3) }
         ensures why { HasWhy (c + 1) result self.new.1 self.new.2 (S.view self.old.3) }
     {
         if c >= self.sessions.len() {
@@ -316,15 +321,15 @@ impl<S: RowStore> Engine<S> {
     }
 
     /// The commit is made durable.
-    #[tactic(auto, using(crate::proofs::KeptLemmas::kept_scripts, crate::proofs::KeptLemmas::grows_none, crate::proofs::KeptLemmas::keeps_in, crate::proofs::KeptLemmas::goes_noted, crate::proofs::PaceLemmas::paces_done, crate::proofs::PaceLemmas::why_done, crate::proofs::PaceLemmas::paces_kept, crate::proofs::PaceLemmas::acts_still))]
+    #[tactic(auto, using(crate::proofs::KeptLemmas::kept_scripts, crate::proofs::KeptLemmas::grows_none, crate::proofs::KeptLemmas::grows_halted, crate::proofs::KeptLemmas::halt_goes, crate::proofs::KeptLemmas::halts_for, crate::proofs::PaceLemmas::paces_later, crate::proofs::PaceLemmas::paces_kept, crate::proofs::PaceLemmas::done_halted, crate::proofs::PaceLemmas::claims_halted, crate::proofs::PaceLemmas::why_done, crate::proofs::PaceLemmas::acts_still))]
     pub(crate) fn force(&mut self, c: usize) -> Step
         requires here { next_at self.old.5 c ≡ Close Force }
         ensures same { self.new.0 ≡ self.old.0 }
-        ensures grows { Grows result self.old.1 self.new.1 }
+        ensures grows { Grows (c + 1) result self.old.1 self.new.1 }
         ensures stops { self.new.4 ≡ stop_after result self.old.4 }
         ensures cause { HasStopped result (S.view self.new.3) }
         ensures goes { NotEnded result }
-        ensures paces { Paces c result self.old.5 self.new.5 (S.view self.old.3) (S.view self.new.3) }
+        ensures paces { Paces c result self.old.5 self.new.5 self.old.1 self.new.1 (S.view self.old.3) (S.view self.new.3) }
         ensures why { HasWhy (c + 1) result self.new.1 self.new.2 (S.view self.old.3) }
     {
         if c >= self.sessions.len() {
@@ -333,24 +338,26 @@ impl<S: RowStore> Engine<S> {
         let Phase::Forcing = self.sessions[c].phase else {
             unreachable!()
         };
-        let answer = self.store.force();
-        if answer.is_ok() {
-            let session = &mut self.sessions[c];
-            session.phase = Phase::Acknowledging;
+        match self.store.force() {
+            Ok(()) => {
+                let session = &mut self.sessions[c];
+                session.phase = Phase::Acknowledging;
+                Step::Went(Event::Force)
+            }
+            Err(answer) => self.halt(answer),
         }
-        self.note(answer, Event::Force)
     }
 
     /// The commit is durable: all locks go, and the connection may be told.
-    #[tactic(auto, using(crate::proofs::KeptLemmas::kept_scripts, crate::proofs::KeptLemmas::grows_one, crate::proofs::PaceLemmas::paces_done, crate::proofs::PaceLemmas::why_done, crate::proofs::PaceLemmas::acts_none))]
+    #[tactic(auto, using(crate::proofs::KeptLemmas::kept_scripts, crate::proofs::KeptLemmas::grows_one, crate::proofs::KeptLemmas::own_conn, crate::proofs::PaceLemmas::paces_put, crate::proofs::PaceLemmas::why_done, crate::proofs::PaceLemmas::acts_none))]
     pub(crate) fn acknowledge(&mut self, c: usize) -> Step
         requires here { next_at self.old.5 c ≡ Close Acknowledge }
         ensures same { self.new.0 ≡ self.old.0 }
-        ensures grows { Grows result self.old.1 self.new.1 }
+        ensures grows { Grows (c + 1) result self.old.1 self.new.1 }
         ensures stops { self.new.4 ≡ stop_after result self.old.4 }
         ensures cause { HasStopped result (S.view self.new.3) }
         ensures goes { NotEnded result }
-        ensures paces { Paces c result self.old.5 self.new.5 (S.view self.old.3) (S.view self.new.3) }
+        ensures paces { Paces c result self.old.5 self.new.5 self.old.1 self.new.1 (S.view self.old.3) (S.view self.new.3) }
         ensures why { HasWhy (c + 1) result self.new.1 self.new.2 (S.view self.old.3) }
     {
         if c >= self.sessions.len() {
@@ -375,15 +382,15 @@ impl<S: RowStore> Engine<S> {
     }
 
     /// A change of a transaction that leaves is taken back; where none is left, the transaction ends.
-    #[tactic(auto, using(crate::proofs::KeptLemmas::kept_scripts, crate::proofs::KeptLemmas::grows_one, crate::proofs::KeptLemmas::grows_none, crate::proofs::KeptLemmas::grows_told, crate::proofs::KeptLemmas::stops_told, crate::proofs::KeptLemmas::cause_told, crate::proofs::KeptLemmas::goes_told, crate::proofs::KeptLemmas::keeps_in, crate::proofs::KeptLemmas::keeps_for, crate::proofs::KeptLemmas::goes_noted, crate::proofs::PaceLemmas::paces_done, crate::proofs::PaceLemmas::why_done, crate::proofs::PaceLemmas::acts_frame, crate::proofs::PaceLemmas::acts_then, crate::proofs::PaceLemmas::paces_blocked, crate::proofs::PaceLemmas::acts_bare, crate::proofs::PaceLemmas::paces_on, crate::proofs::PaceLemmas::why_held))]
+    #[tactic(auto, using(crate::proofs::KeptLemmas::kept_scripts, crate::proofs::KeptLemmas::grows_one, crate::proofs::KeptLemmas::grows_none, crate::proofs::KeptLemmas::grows_told, crate::proofs::KeptLemmas::grows_halted, crate::proofs::KeptLemmas::halt_goes, crate::proofs::KeptLemmas::halts_for, crate::proofs::KeptLemmas::own_conn, crate::proofs::KeptLemmas::stops_told, crate::proofs::KeptLemmas::cause_told, crate::proofs::KeptLemmas::goes_told, crate::proofs::KeptLemmas::keeps_in, crate::proofs::KeptLemmas::keeps_for, crate::proofs::PaceLemmas::paces_put, crate::proofs::PaceLemmas::paces_undid, crate::proofs::PaceLemmas::paces_kept, crate::proofs::PaceLemmas::done_halted, crate::proofs::PaceLemmas::claims_halted, crate::proofs::PaceLemmas::why_done, crate::proofs::PaceLemmas::acts_frame, crate::proofs::PaceLemmas::acts_then, crate::proofs::PaceLemmas::paces_blocked, crate::proofs::PaceLemmas::acts_bare, crate::proofs::PaceLemmas::paces_on, crate::proofs::PaceLemmas::why_held))]
     pub(crate) fn leave(&mut self, c: usize) -> Step
         requires here { next_at self.old.5 c ≡ Close Leave }
         ensures same { self.new.0 ≡ self.old.0 }
-        ensures grows { Grows result self.old.1 self.new.1 }
+        ensures grows { Grows (c + 1) result self.old.1 self.new.1 }
         ensures stops { self.new.4 ≡ stop_after result self.old.4 }
         ensures cause { HasStopped result (S.view self.new.3) }
         ensures goes { NotEnded result }
-        ensures paces { Paces c result self.old.5 self.new.5 (S.view self.old.3) (S.view self.new.3) }
+        ensures paces { Paces c result self.old.5 self.new.5 self.old.1 self.new.1 (S.view self.old.3) (S.view self.new.3) }
         ensures why { HasWhy (c + 1) result self.new.1 self.new.2 (S.view self.old.3) }
     {
         if c >= self.sessions.len() {
@@ -423,20 +430,20 @@ impl<S: RowStore> Engine<S> {
                 self.store.let_go(actor);
                 Step::Blocked(Why::Latch(b))
             }
-            Err(answer) => self.note(Err(answer), Event::Undo),
+            Err(answer) => self.halt(answer),
         }
     }
 
     /// A transaction ends that the store never had.
-    #[tactic(auto, using(crate::proofs::KeptLemmas::kept_scripts, crate::proofs::KeptLemmas::grows_told, crate::proofs::KeptLemmas::stops_told, crate::proofs::KeptLemmas::cause_told, crate::proofs::KeptLemmas::goes_told, crate::proofs::PaceLemmas::paces_done, crate::proofs::PaceLemmas::why_done, crate::proofs::PaceLemmas::acts_none))]
+    #[tactic(auto, using(crate::proofs::KeptLemmas::kept_scripts, crate::proofs::KeptLemmas::grows_told, crate::proofs::KeptLemmas::own_conn, crate::proofs::KeptLemmas::stops_told, crate::proofs::KeptLemmas::cause_told, crate::proofs::KeptLemmas::goes_told, crate::proofs::PaceLemmas::paces_put, crate::proofs::PaceLemmas::why_done, crate::proofs::PaceLemmas::acts_none))]
     pub(crate) fn vanish(&mut self, c: usize) -> Step
         requires here { next_at self.old.5 c ≡ Close Vanish }
         ensures same { self.new.0 ≡ self.old.0 }
-        ensures grows { Grows result self.old.1 self.new.1 }
+        ensures grows { Grows (c + 1) result self.old.1 self.new.1 }
         ensures stops { self.new.4 ≡ stop_after result self.old.4 }
         ensures cause { HasStopped result (S.view self.new.3) }
         ensures goes { NotEnded result }
-        ensures paces { Paces c result self.old.5 self.new.5 (S.view self.old.3) (S.view self.new.3) }
+        ensures paces { Paces c result self.old.5 self.new.5 self.old.1 self.new.1 (S.view self.old.3) (S.view self.new.3) }
         ensures why { HasWhy (c + 1) result self.new.1 self.new.2 (S.view self.old.3) }
     {
         if c >= self.sessions.len() {
@@ -482,15 +489,15 @@ impl<S: RowStore> Engine<S> {
     }
 
     /// A change of a refused statement is taken back; where none is left, the refusal is put.
-    #[tactic(auto, using(crate::proofs::KeptLemmas::kept_scripts, crate::proofs::KeptLemmas::grows_one, crate::proofs::KeptLemmas::grows_none, crate::proofs::KeptLemmas::grows_finished, crate::proofs::KeptLemmas::stops_finished, crate::proofs::KeptLemmas::cause_finished, crate::proofs::KeptLemmas::goes_finished, crate::proofs::KeptLemmas::keeps_for, crate::proofs::KeptLemmas::goes_noted, crate::proofs::PaceLemmas::paces_done, crate::proofs::PaceLemmas::why_done, crate::proofs::PaceLemmas::acts_frame, crate::proofs::PaceLemmas::paces_blocked, crate::proofs::PaceLemmas::acts_bare, crate::proofs::PaceLemmas::paces_on, crate::proofs::PaceLemmas::why_held))]
+    #[tactic(auto, using(crate::proofs::KeptLemmas::kept_scripts, crate::proofs::KeptLemmas::grows_one, crate::proofs::KeptLemmas::grows_none, crate::proofs::KeptLemmas::grows_halted, crate::proofs::KeptLemmas::halt_goes, crate::proofs::KeptLemmas::halts_for, crate::proofs::KeptLemmas::own_conn, crate::proofs::KeptLemmas::grows_finished, crate::proofs::KeptLemmas::stops_finished, crate::proofs::KeptLemmas::cause_finished, crate::proofs::KeptLemmas::goes_finished, crate::proofs::KeptLemmas::keeps_for, crate::proofs::PaceLemmas::paces_put, crate::proofs::PaceLemmas::paces_undid, crate::proofs::PaceLemmas::paces_kept, crate::proofs::PaceLemmas::done_halted, crate::proofs::PaceLemmas::claims_halted, crate::proofs::PaceLemmas::why_done, crate::proofs::PaceLemmas::acts_frame, crate::proofs::PaceLemmas::paces_blocked, crate::proofs::PaceLemmas::acts_bare, crate::proofs::PaceLemmas::paces_on, crate::proofs::PaceLemmas::why_held))]
     pub(crate) fn refuse(&mut self, c: usize) -> Step
         requires here { next_at self.old.5 c ≡ ToRefuse }
         ensures same { self.new.0 ≡ self.old.0 }
-        ensures grows { Grows result self.old.1 self.new.1 }
+        ensures grows { Grows (c + 1) result self.old.1 self.new.1 }
         ensures stops { self.new.4 ≡ stop_after result self.old.4 }
         ensures cause { HasStopped result (S.view self.new.3) }
         ensures goes { NotEnded result }
-        ensures paces { Paces c result self.old.5 self.new.5 (S.view self.old.3) (S.view self.new.3) }
+        ensures paces { Paces c result self.old.5 self.new.5 self.old.1 self.new.1 (S.view self.old.3) (S.view self.new.3) }
         ensures why { HasWhy (c + 1) result self.new.1 self.new.2 (S.view self.old.3) }
     {
         if c >= self.sessions.len() {
@@ -530,20 +537,20 @@ impl<S: RowStore> Engine<S> {
                 self.store.let_go(actor);
                 Step::Blocked(Why::Latch(b))
             }
-            Err(answer) => self.note(Err(answer), Event::Undo),
+            Err(answer) => self.halt(answer),
         }
     }
 
     /// A command is answered: it ends its transaction, or sets its connection.
-    #[tactic(auto, using(crate::proofs::KeptLemmas::kept_scripts, crate::proofs::KeptLemmas::grows_none, crate::proofs::KeptLemmas::grows_finished, crate::proofs::KeptLemmas::stops_finished, crate::proofs::KeptLemmas::cause_finished, crate::proofs::KeptLemmas::goes_finished, crate::proofs::PaceLemmas::paces_done, crate::proofs::PaceLemmas::why_done, crate::proofs::PaceLemmas::acts_none))]
+    #[tactic(auto, using(crate::proofs::KeptLemmas::kept_scripts, crate::proofs::KeptLemmas::grows_finished, crate::proofs::KeptLemmas::own_conn, crate::proofs::KeptLemmas::stops_finished, crate::proofs::KeptLemmas::cause_finished, crate::proofs::KeptLemmas::goes_finished, crate::proofs::PaceLemmas::paces_put, crate::proofs::PaceLemmas::why_done, crate::proofs::PaceLemmas::acts_none))]
     pub(crate) fn command(&mut self, c: usize) -> Step
         requires here { next_at self.old.5 c ≡ ToWork ToCommand }
         ensures same { self.new.0 ≡ self.old.0 }
-        ensures grows { Grows result self.old.1 self.new.1 }
+        ensures grows { Grows (c + 1) result self.old.1 self.new.1 }
         ensures stops { self.new.4 ≡ stop_after result self.old.4 }
         ensures cause { HasStopped result (S.view self.new.3) }
         ensures goes { NotEnded result }
-        ensures paces { Paces c result self.old.5 self.new.5 (S.view self.old.3) (S.view self.new.3) }
+        ensures paces { Paces c result self.old.5 self.new.5 self.old.1 self.new.1 (S.view self.old.3) (S.view self.new.3) }
         ensures why { HasWhy (c + 1) result self.new.1 self.new.2 (S.view self.old.3) }
     {
         if c >= self.sessions.len() {

@@ -21,15 +21,15 @@ use store_api::store::RowStore;
 
 impl<S: RowStore> Engine<S> {
     /// An INSERT makes room for its next row. Where no page is left it is refused.
-    #[tactic(auto, using(crate::proofs::KeptLemmas::kept_scripts, crate::proofs::KeptLemmas::grows_none, crate::proofs::KeptLemmas::goes_noted, crate::proofs::PaceLemmas::paces_done, crate::proofs::PaceLemmas::why_done, crate::proofs::PaceLemmas::acts_same, crate::proofs::PaceLemmas::paces_blocked, crate::proofs::PaceLemmas::acts_bare, crate::proofs::PaceLemmas::paces_starved, crate::proofs::PaceLemmas::paces_ran_out, crate::proofs::PaceLemmas::paces_came, crate::proofs::PaceLemmas::roomy_near, crate::proofs::PaceLemmas::paces_on, crate::proofs::PaceLemmas::replanned, crate::proofs::PaceLemmas::why_withheld))]
+    #[tactic(auto, using(crate::proofs::KeptLemmas::kept_scripts, crate::proofs::KeptLemmas::grows_none, crate::proofs::KeptLemmas::grows_halted, crate::proofs::KeptLemmas::halt_goes, crate::proofs::KeptLemmas::halts_but, crate::proofs::PaceLemmas::paces_kept, crate::proofs::PaceLemmas::done_halted, crate::proofs::PaceLemmas::claims_halted, crate::proofs::PaceLemmas::why_done, crate::proofs::PaceLemmas::acts_same, crate::proofs::PaceLemmas::paces_blocked, crate::proofs::PaceLemmas::acts_bare, crate::proofs::PaceLemmas::paces_refused, crate::proofs::PaceLemmas::paces_came, crate::proofs::PaceLemmas::roomy_near, crate::proofs::PaceLemmas::paces_on, crate::proofs::PaceLemmas::replanned, crate::proofs::PaceLemmas::why_withheld))]
     pub(crate) fn widen(&mut self, c: usize) -> Step
         requires here { next_at self.old.5 c ≡ ToWork Widen }
         ensures same { self.new.0 ≡ self.old.0 }
-        ensures grows { Grows result self.old.1 self.new.1 }
+        ensures grows { Grows (c + 1) result self.old.1 self.new.1 }
         ensures stops { self.new.4 ≡ stop_after result self.old.4 }
         ensures cause { HasStopped result (S.view self.new.3) }
         ensures goes { NotEnded result }
-        ensures paces { Paces c result self.old.5 self.new.5 (S.view self.old.3) (S.view self.new.3) }
+        ensures paces { Paces c result self.old.5 self.new.5 self.old.1 self.new.1 (S.view self.old.3) (S.view self.new.3) }
         ensures why { HasWhy (c + 1) result self.new.1 self.new.2 (S.view self.old.3) }
     {
         if c >= self.sessions.len() {
@@ -70,20 +70,20 @@ impl<S: RowStore> Engine<S> {
                 self.owed -= 1;
                 Step::Went(Event::Fix)
             }
-            Err(answer) => self.note(Err(answer), Event::Change),
+            Err(answer) => self.halt(answer),
         }
     }
 
     /// An INSERT puts its next row into the room that it has made.
-    #[tactic(auto, using(crate::proofs::KeptLemmas::kept_scripts, crate::proofs::KeptLemmas::grows_one, crate::proofs::KeptLemmas::grows_none, crate::proofs::KeptLemmas::keeps_for, crate::proofs::KeptLemmas::goes_noted, crate::proofs::PaceLemmas::paces_done, crate::proofs::PaceLemmas::why_done, crate::proofs::PaceLemmas::acts_none, crate::proofs::PaceLemmas::acts_frame))]
+    #[tactic(auto, using(crate::proofs::KeptLemmas::kept_scripts, crate::proofs::KeptLemmas::grows_one, crate::proofs::KeptLemmas::own_conn, crate::proofs::KeptLemmas::grows_nothing, crate::proofs::KeptLemmas::grows_none, crate::proofs::KeptLemmas::keeps_for, crate::proofs::KeptLemmas::goes_noted, crate::proofs::PaceLemmas::paces_put, crate::proofs::PaceLemmas::paces_gives, crate::proofs::PaceLemmas::why_done, crate::proofs::PaceLemmas::acts_none, crate::proofs::PaceLemmas::acts_frame))]
     pub(crate) fn fill(&mut self, c: usize) -> Step
         requires here { next_at self.old.5 c ≡ ToWork ToFill }
         ensures same { self.new.0 ≡ self.old.0 }
-        ensures grows { Grows result self.old.1 self.new.1 }
+        ensures grows { Grows (c + 1) result self.old.1 self.new.1 }
         ensures stops { self.new.4 ≡ stop_after result self.old.4 }
         ensures cause { HasStopped result (S.view self.new.3) }
         ensures goes { NotEnded result }
-        ensures paces { Paces c result self.old.5 self.new.5 (S.view self.old.3) (S.view self.new.3) }
+        ensures paces { Paces c result self.old.5 self.new.5 self.old.1 self.new.1 (S.view self.old.3) (S.view self.new.3) }
         ensures why { HasWhy (c + 1) result self.new.1 self.new.2 (S.view self.old.3) }
     {
         if c >= self.sessions.len() {
@@ -122,15 +122,15 @@ impl<S: RowStore> Engine<S> {
     }
 
     /// An INSERT has put its last row, and is answered by their number.
-    #[tactic(auto, using(crate::proofs::KeptLemmas::kept_scripts, crate::proofs::KeptLemmas::grows_finished, crate::proofs::KeptLemmas::stops_finished, crate::proofs::KeptLemmas::cause_finished, crate::proofs::KeptLemmas::goes_finished, crate::proofs::PaceLemmas::paces_done, crate::proofs::PaceLemmas::why_done, crate::proofs::PaceLemmas::acts_frame))]
+    #[tactic(auto, using(crate::proofs::KeptLemmas::kept_scripts, crate::proofs::KeptLemmas::grows_finished, crate::proofs::KeptLemmas::own_conn, crate::proofs::KeptLemmas::stops_finished, crate::proofs::KeptLemmas::cause_finished, crate::proofs::KeptLemmas::goes_finished, crate::proofs::PaceLemmas::paces_put, crate::proofs::PaceLemmas::why_done, crate::proofs::PaceLemmas::acts_frame))]
     pub(crate) fn count(&mut self, c: usize) -> Step
         requires here { next_at self.old.5 c ≡ ToWork Count }
         ensures same { self.new.0 ≡ self.old.0 }
-        ensures grows { Grows result self.old.1 self.new.1 }
+        ensures grows { Grows (c + 1) result self.old.1 self.new.1 }
         ensures stops { self.new.4 ≡ stop_after result self.old.4 }
         ensures cause { HasStopped result (S.view self.new.3) }
         ensures goes { NotEnded result }
-        ensures paces { Paces c result self.old.5 self.new.5 (S.view self.old.3) (S.view self.new.3) }
+        ensures paces { Paces c result self.old.5 self.new.5 self.old.1 self.new.1 (S.view self.old.3) (S.view self.new.3) }
         ensures why { HasWhy (c + 1) result self.new.1 self.new.2 (S.view self.old.3) }
     {
         if c >= self.sessions.len() {

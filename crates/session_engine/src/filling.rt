@@ -5,7 +5,7 @@ ghost use Rattle.store_api.specs.Effects.{IsDescribed, IsOpen};
 ghost use Rattle.store_api.specs.View.{MayHold};
 ghost use Rattle.session_engine.specs.Filling.{Moves, IsRoomy, IsNextRow, IsPopped, TurnsFor, inserted, run_out, told_count};
 ghost use Rattle.session_engine.specs.Pacing.{Acts};
-ghost use Rattle.session_engine.specs.Stepped.{KeepsFor};
+ghost use Rattle.session_engine.specs.Stepped.{Refuses};
 
 use crate::binding::refused;
 use crate::session::{Fill, Phase, Plan, Session};
@@ -35,7 +35,7 @@ pub(crate) enum Roomy {
 }
 
 /// Looks for room for a new row of a table.
-#[tactic(auto, using(crate::proofs::KeptLemmas::keeps_for))]
+#[tactic(auto, using(crate::proofs::KeptLemmas::refuses_full, crate::proofs::KeptLemmas::spends_both))]
 pub(crate) fn room_for_row<S: RowStore>(
     store: &mut S,
     actor: Actor,
@@ -46,7 +46,7 @@ pub(crate) fn room_for_row<S: RowStore>(
     requires described { IsDescribed (S.view store.old) table }
     requires few { MayHold (S.view store.old) actor }
     ensures moves { Moves actor (S.view store.old) (S.view store.new) }
-    ensures cause { IfErr result (KeepsFor (S.view store.new)) }
+    ensures cause { IfErr result (Refuses (S.view store.new)) }
     ensures made { IfOk result (IsRoomy actor table (S.view store.old) (S.view store.new)) }
     ensures acts { Acts actor (S.view store.old) (S.view store.new) }
     ensures turns { IfOk result (TurnsFor actor (S.view store.old) (S.view store.new)) }
@@ -56,8 +56,11 @@ pub(crate) fn room_for_row<S: RowStore>(
         Ok(Moved::Reached) => Ok(Roomy::Made),
         Ok(Moved::Onward) => Ok(Roomy::Onward),
         Ok(Moved::Held(b)) => Ok(Roomy::Held(b)),
-        Err(StoreAnswer::Full(SqlState::PagesSpent)) => Ok(Roomy::NoPages),
-        Err(StoreAnswer::Full(SqlState::LogSpent)) => Ok(Roomy::NoLog),
+        Err(StoreAnswer::Full(state)) => match state {
+            SqlState::PagesSpent => Ok(Roomy::NoPages),
+            SqlState::LogSpent => Ok(Roomy::NoLog),
+            _ => unreachable!(),
+        },
         Err(answer) => Err(answer),
     }
 }

@@ -4,12 +4,14 @@ ghost use Rattle.std.specs.Prelude.{◌≡◌, nat_le, length};
 ghost use Rattle.session_engine.specs.Pacing.{next_of, next_of_fill, next_of_make, next_of_plan, next_of_scan};
 
 use crate::session::{Fill, Make, Phase, Plan, Scan, Session, Where};
+use dby_types::number::RowId;
 
 /// What a bound statement does next: a query's steps, an INSERT's, one of a CREATE's, and that of a command.
 #[derive(Clone, Copy, Debug, PartialEq, Eq)]
 pub enum Work {
-    Seek,
-    Read,
+    /// It looks for the first row behind the one that it has passed last.
+    Seek(Option<RowId>),
+    Read(RowId),
     Answer,
     Widen,
     Fill,
@@ -47,8 +49,11 @@ pub enum Next {
     End,
     Begin,
     Resume,
+    /// It asks for the dictionary.
     Ask,
     Prepare,
+    /// It asks for its table.
+    Claim,
     Work(Work),
     Refuse,
     Close(Close),
@@ -63,11 +68,11 @@ fn is_through(session: &Session) -> bool
 
 /// A query comes to a row, reads it, and so on to the end.
 fn next_of_scan(scan: &Scan) -> Work
-    ensures { result ≡ next_of_scan scan.now.at }
+    ensures { result ≡ next_of_scan scan.now.at scan.now.after }
 {
     match scan.at {
-        Where::Lost => Work::Seek,
-        Where::At(_) => Work::Read,
+        Where::Lost => Work::Seek(scan.after),
+        Where::At(rid) => Work::Read(rid),
         Where::Ended => Work::Answer,
     }
 }
@@ -130,8 +135,9 @@ pub(crate) fn next_step(session: &Session) -> Next
         } else {
             Next::Resume
         },
-        Phase::Asking | Phase::Claiming => Next::Ask,
+        Phase::Asking => Next::Ask,
         Phase::Preparing => Next::Prepare,
+        Phase::Claiming => Next::Claim,
         Phase::Working => Next::Work(next_of_plan(&session.plan)),
         Phase::Refusing => Next::Refuse,
         Phase::Committing => Next::Close(Close::Append),

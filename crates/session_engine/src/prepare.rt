@@ -16,15 +16,15 @@ use store_api::store::RowStore;
 
 impl<S: RowStore> Engine<S> {
     /// A statement is bound over the dictionary, which its transaction shares.
-    #[tactic(auto, using(crate::proofs::KeptLemmas::kept_scripts, crate::proofs::KeptLemmas::grows_none, crate::proofs::PaceLemmas::paces_done, crate::proofs::PaceLemmas::why_done, crate::proofs::PaceLemmas::acts_none))]
+    #[tactic(auto, using(crate::proofs::KeptLemmas::kept_scripts, crate::proofs::KeptLemmas::grows_none, crate::proofs::PaceLemmas::paces_bound, crate::proofs::PaceLemmas::why_done, crate::proofs::PaceLemmas::acts_none))]
     pub(crate) fn prepare(&mut self, c: usize) -> Step
         requires here { next_at self.old.5 c ≡ Prepare }
         ensures same { self.new.0 ≡ self.old.0 }
-        ensures grows { Grows result self.old.1 self.new.1 }
+        ensures grows { Grows (c + 1) result self.old.1 self.new.1 }
         ensures stops { self.new.4 ≡ stop_after result self.old.4 }
         ensures cause { HasStopped result (S.view self.new.3) }
         ensures goes { NotEnded result }
-        ensures paces { Paces c result self.old.5 self.new.5 (S.view self.old.3) (S.view self.new.3) }
+        ensures paces { Paces c result self.old.5 self.new.5 self.old.1 self.new.1 (S.view self.old.3) (S.view self.new.3) }
         ensures why { HasWhy (c + 1) result self.new.1 self.new.2 (S.view self.old.3) }
     {
         if c >= self.sessions.len() {

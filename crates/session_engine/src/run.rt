@@ -22,11 +22,11 @@ impl<S: RowStore + Drop> Engine<S> {
     pub fn step(&mut self, c: ConnNo) -> Step
         requires known { (1 ≤ c.0) × (c.0 ≤ length self.old.0) }
         ensures same { self.new.0 ≡ self.old.0 }
-        ensures grows { Grows result self.old.1 self.new.1 }
+        ensures grows { Grows c.0 result self.old.1 self.new.1 }
         ensures ended { result ≡ Step.Ended → HasEnded self.new.0 self.new.1 c.0 }
         ensures stops { self.new.4 ≡ stop_after result self.old.4 }
         ensures cause { self.old.4 ≡ None → HasStopped result (S.view self.new.3) }
-        ensures paces { self.old.4 ≡ None → (k : ℕ) → k + 1 ≡ c.0 → Paces k result self.old.5 self.new.5 (S.view self.old.3) (S.view self.new.3) }
+        ensures paces { self.old.4 ≡ None → (k : ℕ) → k + 1 ≡ c.0 → Paces k result self.old.5 self.new.5 self.old.1 self.new.1 (S.view self.old.3) (S.view self.new.3) }
         ensures why { self.old.4 ≡ None → HasWhy c.0 result self.new.1 self.new.2 (S.view self.old.3) }
         ensures still { (s : Stop) → self.old.4 ≡ Some s → (result ≡ Step.Stopped s) × (self.new ≡ self.old) }
     {
@@ -71,16 +71,16 @@ impl<S: RowStore + Drop> Engine<S> {
     fn work(&mut self, c: usize, work: Work) -> Step
         requires here { next_at self.old.5 c ≡ Next.Work work }
         ensures same { self.new.0 ≡ self.old.0 }
-        ensures grows { Grows result self.old.1 self.new.1 }
+        ensures grows { Grows (c + 1) result self.old.1 self.new.1 }
         ensures stops { self.new.4 ≡ stop_after result self.old.4 }
         ensures cause { HasStopped result (S.view self.new.3) }
         ensures goes { NotEnded result }
-        ensures paces { Paces c result self.old.5 self.new.5 (S.view self.old.3) (S.view self.new.3) }
+        ensures paces { Paces c result self.old.5 self.new.5 self.old.1 self.new.1 (S.view self.old.3) (S.view self.new.3) }
         ensures why { HasWhy (c + 1) result self.new.1 self.new.2 (S.view self.old.3) }
     {
         match work {
-            Work::Seek => self.seek(c),
-            Work::Read => self.read(c),
+            Work::Seek(after) => self.seek(c, after),
+            Work::Read(rid) => self.read(c, rid),
             Work::Answer => self.answer(c),
             Work::Widen => self.widen(c),
             Work::Fill => self.fill(c),
@@ -95,11 +95,11 @@ impl<S: RowStore + Drop> Engine<S> {
     fn build(&mut self, c: usize, build: Build) -> Step
         requires here { next_at self.old.5 c ≡ Next.Work (Work.Build build) }
         ensures same { self.new.0 ≡ self.old.0 }
-        ensures grows { Grows result self.old.1 self.new.1 }
+        ensures grows { Grows (c + 1) result self.old.1 self.new.1 }
         ensures stops { self.new.4 ≡ stop_after result self.old.4 }
         ensures cause { HasStopped result (S.view self.new.3) }
         ensures goes { NotEnded result }
-        ensures paces { Paces c result self.old.5 self.new.5 (S.view self.old.3) (S.view self.new.3) }
+        ensures paces { Paces c result self.old.5 self.new.5 self.old.1 self.new.1 (S.view self.old.3) (S.view self.new.3) }
         ensures why { HasWhy (c + 1) result self.new.1 self.new.2 (S.view self.old.3) }
     {
         match build {
@@ -116,11 +116,11 @@ impl<S: RowStore + Drop> Engine<S> {
     fn close(&mut self, c: usize, close: Close) -> Step
         requires here { next_at self.old.5 c ≡ Next.Close close }
         ensures same { self.new.0 ≡ self.old.0 }
-        ensures grows { Grows result self.old.1 self.new.1 }
+        ensures grows { Grows (c + 1) result self.old.1 self.new.1 }
         ensures stops { self.new.4 ≡ stop_after result self.old.4 }
         ensures cause { HasStopped result (S.view self.new.3) }
         ensures goes { NotEnded result }
-        ensures paces { Paces c result self.old.5 self.new.5 (S.view self.old.3) (S.view self.new.3) }
+        ensures paces { Paces c result self.old.5 self.new.5 self.old.1 self.new.1 (S.view self.old.3) (S.view self.new.3) }
         ensures why { HasWhy (c + 1) result self.new.1 self.new.2 (S.view self.old.3) }
     {
         match close {
@@ -141,18 +141,18 @@ impl<S: RowStore + Drop> Engine<S> {
     fn go(&mut self, c: usize) -> Step
         requires known { c < length self.old.0 }
         ensures same { self.new.0 ≡ self.old.0 }
-        ensures grows { Grows result self.old.1 self.new.1 }
+        ensures grows { Grows (c + 1) result self.old.1 self.new.1 }
         ensures ended { result ≡ Step.Ended → HasEnded self.new.0 self.new.1 (c + 1) }
         ensures stops { self.new.4 ≡ stop_after result self.old.4 }
         ensures cause { HasStopped result (S.view self.new.3) }
-        ensures paces { Paces c result self.old.5 self.new.5 (S.view self.old.3) (S.view self.new.3) }
+        ensures paces { Paces c result self.old.5 self.new.5 self.old.1 self.new.1 (S.view self.old.3) (S.view self.new.3) }
         ensures why { HasWhy (c + 1) result self.new.1 self.new.2 (S.view self.old.3) }
     {
         match next_step(&self.sessions[c]) {
             Next::End => Step::Ended,
             Next::Begin => self.begin(c),
             Next::Resume => self.resume(c),
-            Next::Ask => self.ask(c),
+            Next::Ask | Next::Claim => self.ask(c),
             Next::Prepare => self.prepare(c),
             Next::Work(work) => self.work(c, work),
             Next::Refuse => self.refuse(c),

@@ -5,7 +5,7 @@ ghost use Rattle.store_api.specs.Effects.{IsDescribed};
 ghost use Rattle.store_api.specs.Frames.{Frame};
 ghost use Rattle.store_api.specs.View.{MayHold};
 ghost use Rattle.session_engine.specs.Scanning.{IsKeptFrom, IsSought, IsSeen, Takes, TurnsTo, passed, told_rows};
-ghost use Rattle.session_engine.specs.Stepped.{KeepsFor};
+ghost use Rattle.session_engine.specs.Stepped.{Refuses};
 
 use crate::session::{Scan, Where};
 use dby_types::answer::{Answer, Component};
@@ -30,7 +30,7 @@ pub(crate) enum Sought {
 }
 
 /// Looks for the first row of a table behind a row id, live or marked.
-#[tactic(auto, using(crate::proofs::KeptLemmas::keeps_for, crate::proofs::KeptLemmas::keeps_held))]
+#[tactic(auto, using(crate::proofs::KeptLemmas::refuses_sure, crate::proofs::KeptLemmas::refuses_held))]
 pub(crate) fn seek_row<S: RowStore>(
     store: &mut S,
     actor: Actor,
@@ -41,7 +41,7 @@ pub(crate) fn seek_row<S: RowStore>(
     requires few { MayHold (S.view store.old) actor }
     ensures frame { Frame actor (S.view store.old) (S.view store.new) }
     ensures content { (S.view store.new).content ≡ (S.view store.old).content }
-    ensures cause { IfErr result (KeepsFor (S.view store.new)) }
+    ensures cause { IfErr result (Refuses (S.view store.new)) }
     ensures sought { IfOk result (IsSought (S.view store.old).content.heaps table after) }
     ensures turns { IfOk result (TurnsTo actor (S.view store.old) (S.view store.new)) }
 {
@@ -77,7 +77,7 @@ pub(crate) enum Saw {
 }
 
 /// Looks at a row.
-#[tactic(auto, using(crate::proofs::KeptLemmas::keeps_for))]
+#[tactic(auto, using(crate::proofs::KeptLemmas::refuses_for))]
 pub(crate) fn read_row<S: RowStore>(
     store: &mut S,
     actor: Actor,
@@ -88,7 +88,7 @@ pub(crate) fn read_row<S: RowStore>(
     requires few { MayHold (S.view store.old) actor }
     ensures frame { Frame actor (S.view store.old) (S.view store.new) }
     ensures content { (S.view store.new).content ≡ (S.view store.old).content }
-    ensures cause { IfErr result (KeepsFor (S.view store.new)) }
+    ensures cause { IfErr result (Refuses (S.view store.new)) }
     ensures saw { IfOk result (IsSeen (S.view store.old).content.heaps table rid) }
     ensures kept { IfOk result (IsKeptFrom actor (S.view store.old)) }
 {

@@ -21,7 +21,7 @@ returns c =
     let well = closes_well c.close-closed.result.stop _ (c.close-closed.ensures.cause goes) in
     let empty : IsEmptyStore (shown e.3) = search rules in
     ran c.args.inputs.scripts c.args.inputs.plan.lines how c.ending.result (shown e.3) (shown n.3) e.1 n.1 e.5 n.5 journal c.ending.ensures c.in-Ok.ensures.1 empty
-    (subst (λ (ss : List (List ℕ)). (ways : ℕ → ℕ) → AreFew ways e.5 (shown e.3) → Leaves (λ new. IsWalk ss c.args.inputs.plan.lines (seen e.1 (shown e.3) ways) new how) n.1 n.5 (shown n.3)) given c.walk-walked.ensures.walk)
+    (subst (λ (ss : List (List ℕ)). (ways : ℕ → ℕ) → AreFew ways e.5 (shown e.3) → Leaves (λ new. IsWalk ss c.args.inputs.plan.lines (seen e.1 e.5 (shown e.3) ways) new how) n.1 n.5 (shown n.3)) given c.walk-walked.ensures.walk)
     (subst (λ (ss : List (List ℕ)). IsLegal no_tables ss journal.entries journal.locks) left c.close-closed.ensures.legal)
     c.close-closed.ensures.ends
     (subst (λ (ss : List (List ℕ)). AllAtRest (length ss) journal.entries) left (c.close-closed.ensures.rest well))

@@ -8,5 +8,5 @@ invariant-loop g l = record {
   stops : l.engine.4 ≡ l.initial.engine.4;
   most : l.counter ≤ l.line.steps;
   goes : (ways : ℕ → ℕ) → AreFew ways l.initial.engine.5 (g.S.RowStore.view l.initial.engine.3)
-      → Leaves (λ new. Goes l.initial.engine.0 l.line.connection l.counter (seen l.initial.engine.1 (g.S.RowStore.view l.initial.engine.3) ways) new) l.engine.1 l.engine.5 (g.S.RowStore.view l.engine.3);
+      → Leaves (λ new. Goes l.initial.engine.0 l.line.connection l.counter (seen l.initial.engine.1 l.initial.engine.5 (g.S.RowStore.view l.initial.engine.3) ways) new) l.engine.1 l.engine.5 (g.S.RowStore.view l.engine.3);
 }

@@ -1,4 +1,4 @@
-use Rattle.std.proofs.Common.{◌-◌, ◌<◌, length, refl, sym, ◌∙◌, ap, subst, arith}
+use Rattle.std.proofs.Common.{◌-◌, ◌<◌, length, refl, sym, ◌∙◌, ap, subst, arith, false}
 use Rattle.lock_manager.specs.Table.{lock}
 use Rattle.lock_modes.specs.declared.event.LockEvent.TheVariants.{Granted, Queued}
 use Rattle.lock_modes.specs.Lock.{has_grant, request, apply}
@@ -8,6 +8,7 @@ use Rattle.session_engine.proofs.RoomLemmas.{room_for, room_after}
 use Rattle.session_engine.proofs.WantLemmas.{asks_at_once, asks_and_waits, wakes, starves, unblocked_idle, wanted_ends, queue_longer, queue_no_longer}
 use Rattle.session_engine.specs.declared.session.Session.{Session}
 use Rattle.session_engine.proofs.SpentLemmas.{itself, spent_kept}
+use Rattle.session_engine.proofs.PaceLemmas.{acts_none, asks_inside, paces_inside, paces_starved, paces_woken}
 use Rattle.session_engine.proofs.engine.Engine.ask.Goals as goal
 
 pub invariant_of-self-then-session : goal.invariant_of-self-then-session
@@ -115,3 +116,16 @@ invariant_of-self-in-Conflict g c =
       woken = c.enqueue.ensures.woken ∙ c.in-Conflict.ensures.woken ∙ c.in-Ok.ensures.woken ∙ c.self.invariant.woken;
       spent = spent_kept c.self.inside.sessions.items c.args.c r _ lt at (itself r.closed) (itself r.spans) (itself r.begun) c.self.invariant.spent;
     }
+
+pub returns-then-session-clause-paces : goal.returns-then-session-clause-paces
+returns-then-session-clause-paces g c =
+    let lt : c.args.c < length c.self.inside.sessions.items = omega arith in
+    let r = c.index_mut-session.result.now in
+    paces_inside g.S.RowStore.view c.args.c _ _ _ _ _ _ _ c.args.self.now _ _ _ c.self.view_is
+    (paces_woken c.args.c c.self.inside.sessions.items r _ (c.in-Some.name, c.in-Some.mode) _ _ _ _ lt c.index_mut-session.ensures.value (sym c.wanted.ensures ∙ c.in-Some.is)
+    (ap (λ p. record r { phase = p; queued = false }) c.behind-session.ensures) (acts_none _ _))
+
+pub returns-in_default-room-clause-paces : goal.returns-in_default-room-clause-paces
+returns-in_default-room-clause-paces g c =
+    paces_inside g.S.RowStore.view c.args.c _ _ _ _ _ _ _ c.args.self.now _ _ _ c.self.view_is
+    (paces_starved c.args.c c.self.inside.sessions.items c.starve.new.session _ _ _ _ (asks_inside _ c.args.c _ _ _ _ _ _ c.self.view_is c.requires.here) (ap (λ (x : Session). x.phase) c.starve.ensures) (acts_none _ _))

@@ -1,4 +1,4 @@
-use Rattle.std.proofs.Common.{◌≡◌, ◌+◌, ◌<◌, length, ◌∙◌, ap, subst, arith}
+use Rattle.std.proofs.Common.{◌≡◌, ◌+◌, ◌<◌, length, ◌∙◌, ap, subst, arith, refl}
 use Rattle.lock_manager.specs.Table.{lock}
 use Rattle.session_engine.specs.Beginning.{IsNext}
 use Rattle.session_engine.specs.State.{ends_in, opens}
@@ -9,6 +9,8 @@ use Rattle.session_engine.proofs.StepLemmas.{kept_content, still_engine}
 use Rattle.session_engine.proofs.StartLemmas.{first_statement, turned, idle_made, begun_opens}
 use Rattle.session_engine.specs.declared.session.Session.{Session}
 use Rattle.session_engine.proofs.SpentLemmas.{spent_open}
+use Rattle.session_engine.proofs.PaceLemmas.{acts_none, paces_halted, paces_inside, acts_still, paces_stopped}
+use Rattle.session_engine.specs.declared.step.Step.TheVariants.{Memory}
 use Rattle.session_engine.proofs.engine.Engine.begin.Goals as goal
 
 pub begin-requires-clause-few : goal.begin-requires-clause-few
@@ -90,3 +92,34 @@ invariant_of-self-in-Err g c =
     c.self.inside.tables.entries c.self.inside.last c.self.inside.owed c.self.inside.owed_events c.args.c c.index_mut-session.result.now c.self.invariant lt c.index_mut-session.ensures.value
     c.in-Ok.ensures.entries c.in-Ok.ensures.events (let fit = room.entries_fit in omega (arith, fit)) (let fit = room.events_fit in omega (arith, fit, waiters))
     (kept_content _ _ _ _ _ _ c.in-Err.ensures.err) frame.everyone frame.limit_same
+
+pub returns-in_default-fresh-clause-paces : goal.returns-in_default-fresh-clause-paces
+returns-in_default-fresh-clause-paces g c =
+    paces_inside g.S.RowStore.view c.args.c _ _ _ _ _ _ _ c.args.self.now _ _ _ c.self.view_is
+    (paces_halted c.args.c Memory c.self.inside.sessions.items c.index_mut-session.result.now _ _ _ _ refl refl (acts_none _ _))
+
+pub returns-in_default-ready-clause-paces : goal.returns-in_default-ready-clause-paces
+returns-in_default-ready-clause-paces g c =
+    paces_inside g.S.RowStore.view c.args.c _ _ _ _ _ _ _ c.args.self.now _ _ _ c.self.view_is
+    (paces_halted c.args.c Memory c.self.inside.sessions.items c.index_mut-session.result.now _ _ _ _ refl refl (acts_none _ _))
+
+pub returns-in-Err-Memory-clause-paces : goal.returns-in-Err-Memory-clause-paces
+returns-in-Err-Memory-clause-paces g c =
+    paces_inside g.S.RowStore.view c.args.c _ _ _ _ _ _ _ c.args.self.now _ _ _ c.self.view_is
+    (paces_halted c.args.c Memory c.self.inside.sessions.items c.index_mut-session.result.now _ _ _ _ refl refl (acts_still _ _ _ c.in-Err-Memory.ensures.frame))
+
+pub returns-in-Err-clause-paces : goal.returns-in-Err-clause-paces
+returns-in-Err-clause-paces g c =
+    paces_stopped g.S.RowStore.view c.args.c c.halt.result c.self.inside.sessions.items _ _ _ _ c.args.self.now c.halt.new.self _ _ _ c.self.view_is c.halt.ensures.nexts (c.halt.ensures.entries ∙ c.in-Ok.ensures.entries) c.halt.ensures.store c.halt.ensures.halted
+    (acts_still _ _ _ c.in-Err.ensures.frame)
+
+pub invariant_of-self-in-Err-Memory : goal.invariant_of-self-in-Err-Memory
+invariant_of-self-in-Err-Memory g c =
+    let lt : c.args.c < length c.self.inside.sessions.items = omega arith in
+    let frame = c.in-Err-Memory.ensures.frame in
+    let room = c.in-Ok.ensures.room in
+    let waiters = c.waiters-waiters.ensures.exact in
+    still_engine c.self.inside.entries c.get_ready-ready.new.entries c.self.inside.events c.get_ready-ready.new.events c.self.inside.locks c.self.inside.sessions.items (g.S.RowStore.view c.self.inside.store) (g.S.RowStore.view c.begin.new.self)
+    c.self.inside.tables.entries c.self.inside.last c.self.inside.owed c.self.inside.owed_events c.args.c c.index_mut-session.result.now c.self.invariant lt c.index_mut-session.ensures.value
+    c.in-Ok.ensures.entries c.in-Ok.ensures.events (let fit = room.entries_fit in omega (arith, fit)) (let fit = room.events_fit in omega (arith, fit, waiters))
+    (kept_content _ _ _ _ _ _ c.in-Err-Memory.ensures.err) frame.everyone frame.limit_same

@@ -13,6 +13,7 @@ use Rattle.session_engine.proofs.StepLemmas.{stored_after, refused_content}
 use Rattle.session_engine.proofs.ContainerLemmas.{leaves_container}
 use Rattle.session_engine.proofs.EndLemmas.{undoes_transaction, rolls_back, closes, leaves_pages, leaves_done}
 use Rattle.session_engine.proofs.SpentLemmas.{itself, spent_idle, spent_kept}
+use Rattle.session_engine.proofs.PaceLemmas.{acts_frame, paces_inside, paces_stopped, paces_unmade}
 use Rattle.session_engine.proofs.engine.Engine.leave.Goals as goal
 
 pub undo_one-requires-clause-few : goal.undo_one-requires-clause-few
@@ -190,3 +191,15 @@ invariant_of-self-in-Err g c =
       woken = c.self.invariant.woken;
       spent = spent_kept c.self.inside.sessions.items c.args.c c.index_mut-session.result.now _ lt c.index_mut-session.ensures.value (itself c.index_mut-session.result.now.closed) (itself c.index_mut-session.result.now.spans) (itself c.index_mut-session.result.now.begun) c.self.invariant.spent;
     }
+
+pub returns-in-Ok-UndidContainer-clause-paces : goal.returns-in-Ok-UndidContainer-clause-paces
+returns-in-Ok-UndidContainer-clause-paces g c =
+    paces_inside g.S.RowStore.view c.args.c _ _ _ _ _ _ _ c.args.self.now _ _ _ c.self.view_is
+    (paces_unmade c.args.c c.actor_of-actor.result c.index_mut-session.result.now.txn.0 0 _ c.self.inside.sessions.items c.index_mut-session.result.now _ _ _ _ refl
+    (subst (λ u. Undoes c.actor_of-actor.result c.index_mut-session.result.now.txn.0 0 (g.S.RowStore.view c.self.inside.store) (g.S.RowStore.view c.undo_one.new.self) u) c.in-Ok-UndidContainer.field-0-is c.in-Ok-UndidContainer.ensures.ok)
+    (acts_frame _ _ _ _ c.actor_of-actor.ensures c.in-Ok-UndidContainer.ensures.frame))
+
+pub returns-in-Err-clause-paces : goal.returns-in-Err-clause-paces
+returns-in-Err-clause-paces g c =
+    paces_stopped g.S.RowStore.view c.args.c c.halt.result c.self.inside.sessions.items _ _ _ _ c.args.self.now c.halt.new.self _ _ _ c.self.view_is c.halt.ensures.nexts c.halt.ensures.entries c.halt.ensures.store c.halt.ensures.halted
+    (acts_frame _ _ _ _ c.actor_of-actor.ensures c.in-Err.ensures.frame)

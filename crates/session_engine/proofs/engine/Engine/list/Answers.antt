@@ -14,6 +14,8 @@ use Rattle.session_engine.proofs.LayLemmas.{lists, list_stored, list_room, list_
 use Rattle.session_engine.proofs.MakeLemmas.{Making, make_open, make_starves}
 use Rattle.session_engine.proofs.ReadLemmas.{working_owes}
 use Rattle.session_engine.proofs.StepLemmas.{kept_content}
+use Rattle.session_engine.proofs.KeptLemmas.{grows_nothing}
+use Rattle.session_engine.specs.declared.step.Event.TheVariants as event
 use Rattle.session_engine.proofs.engine.Engine.list.Goals as goal
 
 pub overflow_sub-self : goal.overflow_sub-self
@@ -146,3 +148,6 @@ invariant_of-self-in-Ok-put_row g c =
     rw (took.after, put.0.takes.after, c.enlist.ensures, c.ready_to_list-roomy.ensures.tables, put.1.name, put.1.defined) (engine_listing c.self.inside.entries c.put-in-Ok-put_row.new.items c.self.inside.events c.self.inside.locks c.self.inside.sessions.items (g.S.RowStore.view c.self.inside.store) (g.S.RowStore.view c.put_row.new.self) c.self.inside.tables.entries (c.self.inside.tables.entries ++ entry_of took.make ∷ []) c.self.inside.last c.self.inside.owed (c.self.inside.owed + 1) c.self.inside.owed_events c.args.c r _ c.self.invariant lt at refl
     (omega (arith, needs, size, more)) (omega (arith, opened)) (omega (arith, room.0, len, cap))
     (rw es (lists st c.self.inside.last c.args.c c.len-did.result r took.make c.put.new.items c.in-Ok-put_row.rid (g.S.RowStore.view c.put_row.new.self) h put.0.takes.made put.0.all pushed here puts.none stored (λ b ne. c.in-Ok-put_row.ensures.frame.others b (λ e. ne (e ∙ actor))) c.in-Ok-put_row.ensures.frame.limit_same)))
+
+pub returns-in-Err-clause-grows : goal.returns-in-Err-clause-grows
+returns-in-Err-clause-grows g c = grows_nothing _ event.Change _ _ _ c.note_change.ensures.noted refl (c.note_change.ensures.entries ∙ c.ready.ensures.entries ∙ ap (λ e. e.1) c.self.view_is)

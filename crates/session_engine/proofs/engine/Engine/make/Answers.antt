@@ -1,4 +1,4 @@
-use Rattle.std.proofs.Common.{◌≡◌, ◌≢◌, ◌-◌, ◌<◌, length, refl, sym, ◌∙◌, ap, subst, arith, None, inl, inr}
+use Rattle.std.proofs.Common.{◌≡◌, ◌≢◌, ◌-◌, ◌<◌, length, refl, sym, ◌∙◌, ap, subst, arith, None, inl, inr, rules}
 use Rattle.dby_types.specs.declared.state.SqlState.TheVariants as state
 use Rattle.session_engine.specs.declared.creating.Contained.TheVariants as contained
 use Rattle.session_engine.specs.declared.session.Session.{Session}
@@ -9,6 +9,8 @@ use Rattle.session_engine.proofs.CountLemmas.{may_hold}
 use Rattle.session_engine.proofs.FillLemmas.{engine_with}
 use Rattle.session_engine.proofs.MakeLemmas.{Making, make_at, make_open, make_short, make_on, make_bare, bare_starves, make_spent, makes}
 use Rattle.session_engine.proofs.ReadLemmas.{working_owes}
+use Rattle.session_engine.proofs.KeptLemmas.{kept_scripts, grows_halted}
+use Rattle.session_engine.proofs.PaceLemmas.{paces_stopped, acts_same}
 use Rattle.session_engine.proofs.engine.Engine.make.Goals as goal
 
 pub new_heap-requires-clause-begun : goal.new_heap-requires-clause-begun
@@ -160,3 +162,17 @@ overflow_sub-self-in-Err-Memory g c =
     let lt : c.args.c < length c.self.inside.sessions.items = omega arith in
     let one = (working_owes c.self.inside.entries c.self.inside.events c.self.inside.locks c.self.inside.sessions.items (g.S.RowStore.view c.self.inside.store) c.self.inside.tables.entries c.self.inside.last c.self.inside.owed c.self.inside.owed_events c.args.c c.index_mut-session.result.now c.self.invariant lt c.index_mut-session.ensures.value c.in-Working.is).0 in
     omega (arith, one)
+
+pub returns-in-Err : goal.returns-in-Err
+returns-in-Err g c =
+    let took = subst (IsTaken c.index_mut-session.result.now c.take_unmade.new.session) c.in-Some.is c.take_unmade.ensures in
+    record {
+      same = c.halt.ensures.same ∙ kept_scripts c.self.inside.sessions.items c.args.c c.index_mut-session.result.now _ c.index_mut-session.ensures.value (ap (λ (x : Session). x.script) took.after) ∙ ap (λ e. e.0) c.self.view_is;
+      grows = grows_halted _ _ _ _ c.halt.ensures.halted (c.halt.ensures.entries ∙ ap (λ e. e.1) c.self.view_is);
+      stops = search rules;
+      cause = search rules;
+      goes = search rules;
+      paces = paces_stopped g.S.RowStore.view c.args.c c.halt.result c.self.inside.sessions.items _ _ _ _ c.args.self.now c.halt.new.self _ _ _ c.self.view_is c.halt.ensures.nexts c.halt.ensures.entries c.halt.ensures.store c.halt.ensures.halted
+          (acts_same _ _ _ _ c.actor_of-actor.ensures c.in-Err.ensures.acts);
+      why = search rules;
+    }

@@ -1,9 +1,15 @@
-use Rattle.std.proofs.Common.{◌<◌, length, ◌∙◌, subst, arith}
+use Rattle.std.proofs.Common.{◌<◌, length, ◌∙◌, subst, arith, rules, refl, ap}
 use Rattle.session_engine.specs.Engine.{state}
 use Rattle.session_engine.specs.Scanning.{IsSeen, passed}
 use Rattle.session_engine.specs.declared.session.Plan.TheVariants as plan
 use Rattle.session_engine.proofs.CountLemmas.{may_hold}
 use Rattle.session_engine.proofs.ReadLemmas.{Reading, scan_described, scan_stays, scan_takes, scan_passes, scan_starves, scan_goes, scan_fails, working_owes}
+use Rattle.session_engine.specs.declared.next.Next.TheVariants as next
+use Rattle.session_engine.specs.declared.next.Work.TheVariants as work
+use Rattle.session_engine.proofs.PaceLemmas.{here_inside, reads_at, paces_stopped, acts_frame, at_working, paces_inside, paces_passed}
+use Rattle.session_engine.proofs.KeptLemmas.{kept_scripts}
+use Rattle.session_engine.specs.Pacing.{next_of_scan}
+use Rattle.session_engine.specs.declared.session.Scan.{Scan}
 use Rattle.session_engine.proofs.engine.Engine.read.Goals as goal
 
 pub read_row-requires-clause-described : goal.read_row-requires-clause-described
@@ -31,7 +37,7 @@ invariant_of-self g c =
     let actor = c.actor_of-actor.ensures in
     let h : Reading st c.self.inside.last c.args.c c.index_mut-session.result.now c.in-Select.scan = record { within = lt; at = at; phase = c.in-Working.is; planned = c.in-Select.is; holds = c.self.invariant.holds } in
     scan_goes c.self.inside.entries c.self.inside.events c.self.inside.locks c.self.inside.sessions.items (g.S.RowStore.view c.self.inside.store) (g.S.RowStore.view c.read_row.new.store) c.self.inside.tables.entries c.self.inside.last c.self.inside.owed c.self.inside.owed_events c.args.c r (plan.Select c.take.new.scan) c.self.invariant lt at
-    (scan_takes st c.self.inside.last c.args.c r scan c.take.new.scan c.in-At.rid c.in-Ok-Live.row (g.S.RowStore.view c.read_row.new.store) h c.in-Ok-Live.ensures.content (λ b ne. c.in-Ok-Live.ensures.frame.others b (λ e. ne (e ∙ actor))) c.in-Ok-Live.ensures.frame.limit_same c.in-At.is (subst (IsSeen (g.S.RowStore.view c.self.inside.store).content.heaps c.in-Select.scan.number c.in-At.rid) c.in-Ok-Live.field-0-is c.in-Ok-Live.ensures.saw) c.in-Ok.ensures)
+    (scan_takes st c.self.inside.last c.args.c r scan c.take.new.scan c.args.rid c.in-Ok-Live.row (g.S.RowStore.view c.read_row.new.store) h c.in-Ok-Live.ensures.content (λ b ne. c.in-Ok-Live.ensures.frame.others b (λ e. ne (e ∙ actor))) c.in-Ok-Live.ensures.frame.limit_same (reads_at c.self.inside.sessions.items c.args.c r scan c.args.rid lt at (here_inside _ c.args.c (next.Work (work.Read c.args.rid)) _ _ _ _ _ _ c.self.view_is c.requires.here) c.in-Working.is c.in-Select.is) (subst (IsSeen (g.S.RowStore.view c.self.inside.store).content.heaps c.in-Select.scan.number c.args.rid) c.in-Ok-Live.field-0-is c.in-Ok-Live.ensures.saw) c.in-Ok.ensures)
 
 pub invariant_of-self-in-Ok-Passed : goal.invariant_of-self-in-Ok-Passed
 invariant_of-self-in-Ok-Passed g c =
@@ -43,8 +49,8 @@ invariant_of-self-in-Ok-Passed g c =
     let actor = c.actor_of-actor.ensures in
     let h : Reading st c.self.inside.last c.args.c c.index_mut-session.result.now c.in-Select.scan = record { within = lt; at = at; phase = c.in-Working.is; planned = c.in-Select.is; holds = c.self.invariant.holds } in
     rw c.pass.ensures (
-    scan_goes c.self.inside.entries c.self.inside.events c.self.inside.locks c.self.inside.sessions.items (g.S.RowStore.view c.self.inside.store) (g.S.RowStore.view c.read_row.new.store) c.self.inside.tables.entries c.self.inside.last c.self.inside.owed c.self.inside.owed_events c.args.c r (plan.Select (passed scan c.in-At.rid)) c.self.invariant lt at
-    (scan_passes st c.self.inside.last c.args.c r scan c.in-At.rid (g.S.RowStore.view c.read_row.new.store) h c.in-Ok-Passed.ensures.content (λ b ne. c.in-Ok-Passed.ensures.frame.others b (λ e. ne (e ∙ actor))) c.in-Ok-Passed.ensures.frame.limit_same c.in-At.is (subst (IsSeen (g.S.RowStore.view c.self.inside.store).content.heaps c.in-Select.scan.number c.in-At.rid) c.in-Ok-Passed.field-0-is c.in-Ok-Passed.ensures.saw))
+    scan_goes c.self.inside.entries c.self.inside.events c.self.inside.locks c.self.inside.sessions.items (g.S.RowStore.view c.self.inside.store) (g.S.RowStore.view c.read_row.new.store) c.self.inside.tables.entries c.self.inside.last c.self.inside.owed c.self.inside.owed_events c.args.c r (plan.Select (passed scan c.args.rid)) c.self.invariant lt at
+    (scan_passes st c.self.inside.last c.args.c r scan c.args.rid (g.S.RowStore.view c.read_row.new.store) h c.in-Ok-Passed.ensures.content (λ b ne. c.in-Ok-Passed.ensures.frame.others b (λ e. ne (e ∙ actor))) c.in-Ok-Passed.ensures.frame.limit_same (reads_at c.self.inside.sessions.items c.args.c r scan c.args.rid lt at (here_inside _ c.args.c (next.Work (work.Read c.args.rid)) _ _ _ _ _ _ c.self.view_is c.requires.here) c.in-Working.is c.in-Select.is) (subst (IsSeen (g.S.RowStore.view c.self.inside.store).content.heaps c.in-Select.scan.number c.args.rid) c.in-Ok-Passed.field-0-is c.in-Ok-Passed.ensures.saw))
     )
 
 pub invariant_of-self-in-Ok-Held : goal.invariant_of-self-in-Ok-Held
@@ -106,3 +112,31 @@ invariant_of-self-in_default-take g c =
     let h : Reading st c.self.inside.last c.args.c c.index_mut-session.result.now c.in-Select.scan = record { within = lt; at = at; phase = c.in-Working.is; planned = c.in-Select.is; holds = c.self.invariant.holds } in
     scan_fails c.self.inside.entries c.self.inside.events c.self.inside.locks c.self.inside.sessions.items (g.S.RowStore.view c.self.inside.store) (g.S.RowStore.view c.read_row.new.store) c.self.inside.tables.entries c.self.inside.last c.self.inside.owed c.self.inside.owed_events c.args.c r c.starve.new.session c.self.invariant lt at c.in-Working.is c.starve.ensures
     (scan_starves st c.self.inside.last c.args.c r scan (plan.Select c.take.new.scan) (g.S.RowStore.view c.read_row.new.store) h c.in-Ok-Live.ensures.content (λ b ne. c.in-Ok-Live.ensures.frame.others b (λ e. ne (e ∙ actor))) c.in-Ok-Live.ensures.frame.limit_same)
+
+pub returns-in-Err : goal.returns-in-Err
+returns-in-Err g c = record {
+  same = c.halt.ensures.same ∙ kept_scripts c.self.inside.sessions.items c.args.c c.index_mut-session.result.now _ c.index_mut-session.ensures.value refl ∙ ap (λ e. e.0) c.self.view_is;
+  grows = search rules;
+  stops = search rules;
+  cause = search rules;
+  goes = search rules;
+  paces = paces_stopped g.S.RowStore.view c.args.c c.halt.result c.self.inside.sessions.items _ _ _ _ c.args.self.now c.halt.new.self _ _ _ c.self.view_is c.halt.ensures.nexts c.halt.ensures.entries c.halt.ensures.store c.halt.ensures.halted
+      (acts_frame _ _ _ _ c.actor_of-actor.ensures c.in-Err.ensures.frame);
+  why = search rules;
+}
+
+pub returns-in-Ok-clause-paces : goal.returns-in-Ok-clause-paces
+returns-in-Ok-clause-paces g c =
+    paces_inside g.S.RowStore.view c.args.c _ _ _ _ _ _ _ c.args.self.now _ _ _ c.self.view_is
+    (paces_passed c.args.c _ c.self.inside.sessions.items _ c.args.rid _ _ _ _ refl
+    (here_inside _ c.args.c (next.Work (work.Read c.args.rid)) _ _ _ _ _ _ c.self.view_is c.requires.here)
+    (at_working (record c.index_mut-session.result.now { plan = plan.Select c.take.new.scan }) c.in-Working.is ∙ ap (λ (x : Scan). next.Work (next_of_scan x.at x.after)) c.in-Ok.ensures.rest)
+    (acts_frame _ _ _ _ c.actor_of-actor.ensures c.in-Ok-Live.ensures.frame))
+
+pub returns-in-Ok-Passed-clause-paces : goal.returns-in-Ok-Passed-clause-paces
+returns-in-Ok-Passed-clause-paces g c =
+    paces_inside g.S.RowStore.view c.args.c _ _ _ _ _ _ _ c.args.self.now _ _ _ c.self.view_is
+    (paces_passed c.args.c _ c.self.inside.sessions.items _ c.args.rid _ _ _ _ refl
+    (here_inside _ c.args.c (next.Work (work.Read c.args.rid)) _ _ _ _ _ _ c.self.view_is c.requires.here)
+    (at_working (record c.index_mut-session.result.now { plan = plan.Select c.pass.new.scan }) c.in-Working.is ∙ ap (λ (x : Scan). next.Work (next_of_scan x.at x.after)) c.pass.ensures)
+    (acts_frame _ _ _ _ c.actor_of-actor.ensures c.in-Ok-Passed.ensures.frame))

@@ -1,4 +1,4 @@
-use Rattle.std.proofs.Common.{◌≡◌, ◌+◌, ◌<◌, ◌-◌, length, ◌∙◌, ap, subst, arith}
+use Rattle.std.proofs.Common.{◌≡◌, ◌+◌, ◌<◌, ◌-◌, length, ◌∙◌, ap, subst, arith, refl}
 use Rattle.lock_manager.specs.Table.{lock}
 use Rattle.session_engine.specs.Beginning.{IsNext}
 use Rattle.session_engine.specs.State.{ends_in, opens}
@@ -7,6 +7,8 @@ use Rattle.session_engine.proofs.RoomLemmas.{room_after}
 use Rattle.session_engine.proofs.StartLemmas.{next_statement, begun_opens, begun_ends}
 use Rattle.session_engine.specs.declared.session.Session.{Session}
 use Rattle.session_engine.proofs.SpentLemmas.{spent_open}
+use Rattle.session_engine.proofs.PaceLemmas.{acts_none, paces_halted, paces_inside}
+use Rattle.session_engine.specs.declared.step.Step.TheVariants.{Memory}
 use Rattle.session_engine.proofs.engine.Engine.resume.Goals as goal
 
 pub started-requires : goal.started-requires
@@ -42,3 +44,8 @@ invariant_of-self-2 g c =
       woken = c.self.invariant.woken;
       spent = spent_open c.self.inside.sessions.items c.args.c c.start.new.session (ap (λ (x : Session). x.closed) c.start.ensures ∙ c.in-false.is) c.self.invariant.spent;
     }
+
+pub returns-in_default-ready-clause-paces : goal.returns-in_default-ready-clause-paces
+returns-in_default-ready-clause-paces g c =
+    paces_inside g.S.RowStore.view c.args.c _ _ _ _ _ _ _ c.args.self.now _ _ _ c.self.view_is
+    (paces_halted c.args.c Memory c.self.inside.sessions.items c.index_mut-session.result.now _ _ _ _ refl refl (acts_none _ _))

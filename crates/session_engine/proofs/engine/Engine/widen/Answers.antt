@@ -1,4 +1,4 @@
-use Rattle.std.proofs.Common.{◌≡◌, ◌-◌, ◌<◌, length, set, refl, ◌∙◌, ap, subst, arith, Some, true, inl, inr}
+use Rattle.std.proofs.Common.{◌≡◌, ◌-◌, ◌<◌, length, set, refl, ◌∙◌, ap, subst, arith, Some, true, inl, inr, rules}
 use Rattle.dby_types.specs.declared.state.SqlState.TheVariants as state
 use Rattle.std.proofs.lemmas.Bool.{both_ways}
 use Rattle.session_engine.specs.Engine.{state as state_of}
@@ -12,7 +12,9 @@ use Rattle.session_engine.specs.declared.next.Next.TheVariants as next
 use Rattle.session_engine.specs.declared.next.Work.TheVariants as work
 use Rattle.session_engine.specs.declared.step.Event.TheVariants as event
 use Rattle.session_engine.specs.declared.step.Step.TheVariants.{Went}
-use Rattle.session_engine.proofs.PaceLemmas.{acts_same, here_inside, inside, paces_ran_out}
+use Rattle.session_engine.proofs.PaceLemmas.{acts_same, here_inside, inside, paces_refused, paces_stopped}
+use Rattle.session_engine.specs.declared.session.Session.{Session}
+use Rattle.session_engine.proofs.KeptLemmas.{kept_scripts}
 use Rattle.session_engine.proofs.engine.Engine.widen.Goals as goal
 
 pub room_for_row-requires-clause-described : goal.room_for_row-requires-clause-described
@@ -157,12 +159,24 @@ invariant_of-self-in-Err-Memory g c =
 
 pub returns-in-Ok-NoPages-clause-paces : goal.returns-in-Ok-NoPages-clause-paces
 returns-in-Ok-NoPages-clause-paces g c =
-    inside (λ d ns. Paces c.args.c (Went event.Fix) ns (nexts_of (set c.self.inside.sessions.items c.args.c c.run_out.new.session)) (g.S.RowStore.view d) (g.S.RowStore.view c.room_for_row.new.store)) _ _ _ _ _ _ _ c.self.view_is
-    (paces_ran_out c.args.c event.Fix c.self.inside.sessions.items c.index_mut-session.result.now c.run_out.new.session _ (next.Work work.Widen) (g.S.RowStore.view c.self.inside.store) (g.S.RowStore.view c.room_for_row.new.store)
-    (here_inside _ c.args.c (next.Work work.Widen) _ _ _ _ _ _ c.self.view_is c.requires.here) refl (omega arith) c.run_out.ensures (acts_same _ _ _ _ c.actor_of-actor.ensures c.in-Ok-NoPages.ensures.acts))
+    inside (λ es d ns. Paces c.args.c (Went event.Fix) ns (nexts_of (set c.self.inside.sessions.items c.args.c c.run_out.new.session)) es c.self.inside.entries.items (g.S.RowStore.view d) (g.S.RowStore.view c.room_for_row.new.store)) _ _ _ _ _ _ _ c.self.view_is
+    (paces_refused c.args.c event.Fix c.self.inside.sessions.items c.run_out.new.session (next.Work work.Widen) _ _ (g.S.RowStore.view c.self.inside.store) (g.S.RowStore.view c.room_for_row.new.store)
+    (here_inside _ c.args.c (next.Work work.Widen) _ _ _ _ _ _ c.self.view_is c.requires.here) refl refl (omega arith) (ap (λ (y : Session). y.phase) c.run_out.ensures) (acts_same _ _ _ _ c.actor_of-actor.ensures c.in-Ok-NoPages.ensures.acts))
 
 pub returns-in-Ok-NoLog-clause-paces : goal.returns-in-Ok-NoLog-clause-paces
 returns-in-Ok-NoLog-clause-paces g c =
-    inside (λ d ns. Paces c.args.c (Went event.Fix) ns (nexts_of (set c.self.inside.sessions.items c.args.c c.run_out-in-Ok-NoLog.new.session)) (g.S.RowStore.view d) (g.S.RowStore.view c.room_for_row.new.store)) _ _ _ _ _ _ _ c.self.view_is
-    (paces_ran_out c.args.c event.Fix c.self.inside.sessions.items c.index_mut-session.result.now c.run_out-in-Ok-NoLog.new.session _ (next.Work work.Widen) (g.S.RowStore.view c.self.inside.store) (g.S.RowStore.view c.room_for_row.new.store)
-    (here_inside _ c.args.c (next.Work work.Widen) _ _ _ _ _ _ c.self.view_is c.requires.here) refl (omega arith) c.run_out-in-Ok-NoLog.ensures (acts_same _ _ _ _ c.actor_of-actor.ensures c.in-Ok-NoLog.ensures.acts))
+    inside (λ es d ns. Paces c.args.c (Went event.Fix) ns (nexts_of (set c.self.inside.sessions.items c.args.c c.run_out-in-Ok-NoLog.new.session)) es c.self.inside.entries.items (g.S.RowStore.view d) (g.S.RowStore.view c.room_for_row.new.store)) _ _ _ _ _ _ _ c.self.view_is
+    (paces_refused c.args.c event.Fix c.self.inside.sessions.items c.run_out-in-Ok-NoLog.new.session (next.Work work.Widen) _ _ (g.S.RowStore.view c.self.inside.store) (g.S.RowStore.view c.room_for_row.new.store)
+    (here_inside _ c.args.c (next.Work work.Widen) _ _ _ _ _ _ c.self.view_is c.requires.here) refl refl (omega arith) (ap (λ (y : Session). y.phase) c.run_out-in-Ok-NoLog.ensures) (acts_same _ _ _ _ c.actor_of-actor.ensures c.in-Ok-NoLog.ensures.acts))
+
+pub returns-in-Err : goal.returns-in-Err
+returns-in-Err g c = record {
+  same = c.halt.ensures.same ∙ kept_scripts c.self.inside.sessions.items c.args.c c.index_mut-session.result.now _ c.index_mut-session.ensures.value refl ∙ ap (λ e. e.0) c.self.view_is;
+  grows = search rules;
+  stops = search rules;
+  cause = search rules;
+  goes = search rules;
+  paces = paces_stopped g.S.RowStore.view c.args.c c.halt.result c.self.inside.sessions.items _ _ _ _ c.args.self.now c.halt.new.self _ _ _ c.self.view_is c.halt.ensures.nexts c.halt.ensures.entries c.halt.ensures.store c.halt.ensures.halted
+      (acts_same _ _ _ _ c.actor_of-actor.ensures c.in-Err.ensures.acts);
+  why = search rules;
+}
