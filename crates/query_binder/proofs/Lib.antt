@@ -1,0 +1,5 @@
+pub mod Asked
+pub mod ItemSteps
+pub mod Keys
+pub mod TableSteps
+pub mod Tested
