@@ -98,9 +98,9 @@ plain_faults d name parts h =
     let last = limit_faults (length cs) 64 ++ limit_faults (row_len cs) 1900 in
     ap (λ (l : List SqlState). exists_faults (found_in d name) ++ (twice_faults (column_names cs) ++ (limit_faults (length cs) 64 ++ l))) (sym (append-nil (limit_faults (row_len cs) 1900)))
     ∙ ap (λ (ks : List BoundKey). exists_faults (found_in d name) ++ (twice_faults (column_names cs) ++ (unless (nat_le (primaries ks) 1) SecondPrimaryKey
-      ++ (limit_faults (length cs) 64 ++ (limit_faults (row_len cs) 1900 ++ keys_limits cs ks))))) (sym (no_keys cs 0 parts h))
+    ++ (limit_faults (length cs) 64 ++ (limit_faults (row_len cs) 1900 ++ keys_limits cs ks))))) (sym (no_keys cs 0 parts h))
     ∙ ap (λ (l : List SqlState). exists_faults (found_in d name) ++ (l ++ (twice_faults (column_names cs) ++ (unless (nat_le (primaries (created_keys parts)) 1) SecondPrimaryKey
-      ++ (limit_faults (length cs) 64 ++ (limit_faults (row_len cs) 1900 ++ keys_limits cs (created_keys parts))))))) (sym (no_rules cs parts h))
+    ++ (limit_faults (length cs) 64 ++ (limit_faults (row_len cs) 1900 ++ keys_limits cs (created_keys parts))))))) (sym (no_rules cs parts h))
 
 -- A TABLE WITHOUT KEYS
 pub created : (d : Dictionary) (name : List ℕ) (parts : List TablePart) (f0 f1 f2 : Option SqlState) (copy : List ℕ) (columns : List ColumnDef) {slice : List ColumnDef} (keys : List BoundKey) → has_key parts ≡ false

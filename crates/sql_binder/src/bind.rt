@@ -50,7 +50,14 @@ fn form<D: Catalog>(
             table,
             columns,
             tuples,
-        } => insert(alloc, table.as_slice(), columns, tuples.as_slice(), d, fault),
+        } => insert(
+            alloc,
+            table.as_slice(),
+            columns,
+            tuples.as_slice(),
+            d,
+            fault,
+        ),
         Statement::Update {
             table,
             sets,
@@ -88,11 +95,7 @@ fn told(fault: Option<SqlState>, bound: BoundStatement) -> Result<BoundStatement
 
 /// A statement bound to a dictionary: its bound form, or the one refusal, where several things are wrong the first of the earliest class.
 /// A form that isn't built is refused as that.
-pub fn bind<D: Catalog>(
-    alloc: Global,
-    s: &Statement,
-    d: &D,
-) -> Result<BoundStatement, BindAnswer>
+pub fn bind<D: Catalog>(alloc: Global, s: &Statement, d: &D) -> Result<BoundStatement, BindAnswer>
     ensures { IsAnswer s.now (D.dictionary d.now) result }
 {
     if !is_built(s) {

@@ -8,3 +8,5 @@ pub mod change;
 pub mod create;
 pub mod insert;
 pub mod target;
+#[cfg(test)]
+mod tests;
