@@ -283,7 +283,8 @@ fn binds_a_query_of_groups(rt: HostRuntime) -> Result<(), Fail> {
     let d = one_table(alloc)?;
     match bind(alloc, &counted(alloc)?, &d) {
         Ok(BoundStatement::Select(q)) => assert!(rt; is_counted(&q)),
-        _ => assert!(rt; false),
+        Ok(_other) => assert!(rt; false),
+        Err(_why) => assert!(rt; false),
     }
     Ok(())
 }
